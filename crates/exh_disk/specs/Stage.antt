@@ -1,7 +1,7 @@
 -- How far a file is on its way to its path: what the calls of a disk ask of it, and what they make of it.
 use Rattle.std.specs.Prelude.{Bool, true, false}
 use Rattle.exh_disk.specs.declared.stage.Stage.{Stage}
-use Rattle.exh_disk.specs.declared.stage.Stage.TheVariants.{Made, Left, Held, HeldLeft, OwnMade, OwnLeft, Restricted, Empty, Dressed, Written, Synchronized, Confirmed, Placed, Settled}
+use Rattle.exh_disk.specs.declared.stage.Stage.TheVariants.{Made, Left, Held, HeldLeft, OwnMade, OwnLeft, Restricted, Empty, Dressed, Written, Synchronized, Confirmed, Linked, Unlinkable, Placed, Settled}
 
 -- once it is locked: what it is may have another name by now
 abbrev pub locked : Stage → Stage
@@ -15,6 +15,11 @@ asked Held true = OwnMade
 asked HeldLeft true = OwnLeft
 asked Synchronized true = Confirmed
 asked stage is_own = stage
+
+-- once it was to get a path that nothing has by a link: it has that, or the system has no links for it
+abbrev pub linked : Bool → Stage
+linked true = Linked
+linked false = Unlinkable
 
 -- what it has may be taken away: it is locked and the file of its name, and this save made it, or nobody else may open it
 abbrev pub is_emptiable : Stage → Bool
@@ -41,4 +46,5 @@ is_ours Dressed = true
 is_ours Written = true
 is_ours Synchronized = true
 is_ours Confirmed = true
+is_ours Unlinkable = true
 is_ours stage = false

@@ -1,42 +1,78 @@
-//! A save of a regular file: it is written beside its path, and renamed over it.
-ghost use Rattle.std.specs.Prelude.{◌≡◌, ◌≢◌, ◌⊎◌, IfOk, OnErr, OnOk, true};
-ghost use Rattle.exh_disk.specs.declared.stage.Stage.TheVariants.{Confirmed, Empty, Placed, Settled};
+//! A save of a regular file: it is written beside its path, and renamed over it, or linked to it where nothing is there.
+ghost use Rattle.std.specs.Prelude.{◌≡◌, ◌≢◌, ◌⊎◌, IfOk, IsOk, OnErr, OnOk, string_bytes, true};
+ghost use Rattle.std.specs.Io.KnownBytes.{Appends};
+ghost use Rattle.exh_disk.specs.declared.stage.Stage.TheVariants.{Confirmed, Empty, Placed, Settled, Unlinkable};
 ghost use Rattle.exh_disk.specs.Stage.{is_fillable, is_ours};
 
 use crate::claiming::{claim, see_own};
 use crate::disk_writer::DiskWriter;
 use crate::dressing::dress;
 use crate::fault::Call;
+use crate::held::{Old, clear_names, hold_old, see_held};
 use crate::names::folder_of;
 use crate::path::{old_at, there_at};
 use crate::writing::write_source;
-use crate::{Disk, DiskFault, Found, Source, Target};
+use crate::{Disk, DiskFault, Found, Source, Target, Watch};
 use std::alloc::Global;
 use std::io;
+use std::io::ErrorKind;
 
-/// Writes a source beside a path, renames it over what is there, and gives the source back. The answer is the file, and
-/// why its folder couldn't be synchronized, where it couldn't. On an `Err` what is there is as before, and nothing is left
-/// beside it.
-pub(crate) fn save_beside<D: Disk, S: Source>(
+/// Writes a source beside a path, gives it the place of what is there, whose lock it has until then, and gives the source
+/// back. The answer is the file, and why its folder couldn't be synchronized, where it couldn't. On an `Err` what is there
+/// is as before, and nothing is left beside it.
+#[tactic(auto, using(crate::proofs::Stages::saved_bytes))]
+pub(crate) fn save_beside<D: Disk, S: Source, V: Watch>(
     alloc: Global,
     disk: &mut D,
     path: &str,
-    target: &Target<'_>,
+    target: &Target<'_, D::Opened>,
     source: S,
+    watch: &V,
 ) -> (Result<(D::File, Option<io::Error>), DiskFault>, S)
     ensures settled { IfOk result.0 (λ saved. D.stage saved.0 ≡ Settled) }
+    ensures bytes { IfOk result.0 (λ saved. Appends D.unwritten (D.holds saved.0) (S.bytes source)) }
     ensures source { (result.1 ≡ source) ⊎ S.leaves source result.1 }
 {
-    let old = match old_at(disk, path, target) {
+    let mut old = match hold_old(disk, path, target) {
         Ok(old) => old,
         Err(fault) => return (Err(fault), source),
     };
-    let (file, name) = match claim(alloc, disk, path, old.as_ref()) {
+    let (file, name) = match claim_beside(alloc, disk, path, target, &old) {
         Ok(claimed) => claimed,
         Err(fault) => return (Err(fault), source),
     };
-    let (mut file, filled, source) = fill(disk, file, path, target, &old, source);
-    let saved = match put(disk, &mut file, &name, path, &old, filled) {
+    let (file, filled, source) = fill(disk, file, path, target, found_of(&old), source, watch);
+    let saved = finish(
+        alloc,
+        disk,
+        file,
+        &name,
+        path,
+        target.path,
+        &mut old,
+        filled,
+    );
+    (saved, source)
+}
+
+// Gives a file that is filled its path, and synchronizes its folder, or takes its name away.
+fn finish<D: Disk>(
+    alloc: Global,
+    disk: &mut D,
+    mut file: D::File,
+    name: &str,
+    path: &str,
+    named: &str,
+    old: &mut Option<Old<D::Held>>,
+    filled: Result<(), DiskFault>,
+) -> Result<(D::File, Option<io::Error>), DiskFault>
+    requires stage { is_fillable (D.stage file) ≡ true }
+    requires beside { name.now ≢ path.now }
+    ensures settled { IfOk result (λ saved. D.stage saved.0 ≡ Settled) }
+    ensures filled { OnOk result (IsOk filled) }
+    ensures bytes { IfOk result (λ saved. D.holds saved.0 ≡ D.holds file) }
+{
+    match put(alloc, disk, &mut file, name, path, named, old, filled) {
         Ok(()) => {
             let folder = disk.synchronize_folder(&mut file, folder_of(path));
             Ok((file, folder.err()))
@@ -44,30 +80,58 @@ pub(crate) fn save_beside<D: Disk, S: Source>(
         // Another save has the name.
         Err(DiskFault::Busy) => Err(DiskFault::Busy),
         Err(fault) => {
-            let _ = disk.remove(&file, &name);
+            let _ = disk.remove(&file, name);
             Err(fault)
         }
-    };
-    (saved, source)
+    }
+}
+
+// What was found of the file that is to be replaced.
+fn found_of<H: Drop>(old: &Option<Old<H>>) -> Option<Found> {
+    match old {
+        Some(old) => Some(old.found),
+        None => None,
+    }
+}
+
+// An empty file beside a path, and its name.
+fn claim_beside<D: Disk>(
+    alloc: Global,
+    disk: &mut D,
+    path: &str,
+    target: &Target<'_, D::Opened>,
+    old: &Option<Old<D::Held>>,
+) -> Result<(D::File, String), DiskFault>
+    ensures stage { IfOk result (λ claimed. D.stage claimed.0 ≡ Empty) }
+    ensures bytes { IfOk result (λ claimed. D.holds claimed.0 ≡ D.unwritten) }
+    ensures beside { IfOk result (λ claimed. string_bytes claimed.1 ≢ path.now) }
+{
+    if let Some(old) = old {
+        clear_names(alloc, disk, path, old)?;
+    }
+    claim(alloc, disk, path, target.magic, found_of(old).as_ref())
 }
 
 // Dresses and writes an empty file. What is at the path is asked again first: by now no other save changes it.
-fn fill<D: Disk, S: Source>(
+fn fill<D: Disk, S: Source, V: Watch>(
     disk: &mut D,
     mut file: D::File,
     path: &str,
-    target: &Target<'_>,
-    old: &Option<Found>,
+    target: &Target<'_, D::Opened>,
+    old: Option<Found>,
     source: S,
+    watch: &V,
 ) -> (D::File, Result<(), DiskFault>, S)
-    requires { D.stage file ≡ Empty }
+    requires stage { D.stage file ≡ Empty }
+    requires bytes { D.holds file ≡ D.unwritten }
     ensures stage { is_fillable (D.stage result.0) ≡ true }
     ensures source { (result.2 ≡ source) ⊎ S.leaves source result.2 }
+    ensures bytes { OnOk result.1 (Appends D.unwritten (D.holds result.0) (S.bytes source)) }
 {
     match prepare(disk, &mut file, path, target, old) {
         Ok(()) => {
-            let mut writer = DiskWriter::new(disk, file);
-            let (written, source) = write_source(&mut writer, source);
+            let writer = DiskWriter::new(disk, file);
+            let (written, source, writer) = write_source(writer, source, watch);
             (writer.into_file(), written, source)
         }
         Err(fault) => (file, Err(fault), source),
@@ -79,14 +143,15 @@ fn prepare<D: Disk>(
     disk: &mut D,
     file: &mut D::File,
     path: &str,
-    target: &Target<'_>,
-    old: &Option<Found>,
+    target: &Target<'_, D::Opened>,
+    old: Option<Found>,
 ) -> Result<(), DiskFault>
     requires { D.stage file.old ≡ Empty }
-    ensures { is_fillable (D.stage file.new) ≡ true }
+    ensures stage { is_fillable (D.stage file.new) ≡ true }
+    ensures bytes { D.holds file.new ≡ D.holds file.old }
 {
     let there = old_at(disk, path, target)?;
-    if !is_unchanged(old, &there) {
+    if !is_unchanged(&old, &there) {
         return Err(DiskFault::Changed);
     }
     match &there {
@@ -101,27 +166,99 @@ fn prepare<D: Disk>(
 // Gives a file that is filled its path, once it is on the disk, and if it is still the file of its name and what is at the
 // path is what was there.
 fn put<D: Disk>(
+    alloc: Global,
     disk: &mut D,
     file: &mut D::File,
     name: &str,
     path: &str,
-    old: &Option<Found>,
+    named: &str,
+    old: &mut Option<Old<D::Held>>,
     filled: Result<(), DiskFault>,
 ) -> Result<(), DiskFault>
     requires stage { is_fillable (D.stage file.old) ≡ true }
     requires beside { name.now ≢ path.now }
+    ensures filled { OnOk result (IsOk filled) }
     ensures ok { OnOk result (D.stage file.new ≡ Placed) }
     ensures err { OnErr result (is_ours (D.stage file.new) ≡ true) }
+    ensures bytes { D.holds file.new ≡ D.holds file.old }
 {
     filled?;
     if let Err(error) = disk.synchronize(file) {
         return Err(DiskFault::at(Call::Synchronize, error));
     }
     see_own(disk, file, name)?;
-    if !is_unchanged(old, &there_at(disk, path)?) {
+    match old {
+        Some(old) => {
+            see_held(alloc, disk, path, named, old)?;
+            put_over(disk, file, name, path, old)
+        }
+        None => put_new(disk, file, name, path),
+    }
+}
+
+// Gives a confirmed file the path of an old one, which was just seen to be there.
+fn put_over<D: Disk>(
+    disk: &mut D,
+    file: &mut D::File,
+    name: &str,
+    path: &str,
+    old: &Old<D::Held>,
+) -> Result<(), DiskFault>
+    requires stage { D.stage file.old ≡ Confirmed }
+    requires beside { name.now ≢ path.now }
+    requires held { D.stands old.now.held ≡ true }
+    ensures ok { OnOk result (D.stage file.new ≡ Placed) }
+    ensures err { OnErr result (is_ours (D.stage file.new) ≡ true) }
+    ensures bytes { D.holds file.new ≡ D.holds file.old }
+{
+    match disk.rename(file, name, path, &old.held) {
+        Ok(()) => Ok(()),
+        Err(error) => Err(DiskFault::at(Call::Rename, error)),
+    }
+}
+
+// Gives a confirmed file a path at which nothing is. The link fails where something came there.
+fn put_new<D: Disk>(
+    disk: &mut D,
+    file: &mut D::File,
+    name: &str,
+    path: &str,
+) -> Result<(), DiskFault>
+    requires stage { D.stage file.old ≡ Confirmed }
+    requires beside { name.now ≢ path.now }
+    ensures ok { OnOk result (D.stage file.new ≡ Placed) }
+    ensures err { OnErr result (is_ours (D.stage file.new) ≡ true) }
+    ensures bytes { D.holds file.new ≡ D.holds file.old }
+{
+    match disk.link(file, name, path) {
+        Ok(true) => {
+            // The next save takes away a name that stays.
+            let _ = disk.unname(file, name);
+            Ok(())
+        }
+        Ok(false) => rename_new(disk, file, name, path),
+        Err(error) if error.kind() == ErrorKind::AlreadyExists => Err(DiskFault::Changed),
+        Err(error) => Err(DiskFault::at(Call::Link, error)),
+    }
+}
+
+// The same where the system has no links: what comes there behind the last look isn't seen.
+fn rename_new<D: Disk>(
+    disk: &mut D,
+    file: &mut D::File,
+    name: &str,
+    path: &str,
+) -> Result<(), DiskFault>
+    requires stage { D.stage file.old ≡ Unlinkable }
+    requires beside { name.now ≢ path.now }
+    ensures ok { OnOk result (D.stage file.new ≡ Placed) }
+    ensures err { OnErr result (is_ours (D.stage file.new) ≡ true) }
+    ensures bytes { D.holds file.new ≡ D.holds file.old }
+{
+    if there_at(disk, path)?.is_some() {
         return Err(DiskFault::Changed);
     }
-    match disk.rename(file, name, path) {
+    match disk.rename_new(file, name, path) {
         Ok(()) => Ok(()),
         Err(error) => Err(DiskFault::at(Call::Rename, error)),
     }

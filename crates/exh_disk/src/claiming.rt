@@ -4,7 +4,7 @@ ghost use Rattle.exh_disk.specs.declared.stage.Stage.TheVariants.{Empty, Made, O
 ghost use Rattle.exh_disk.specs.Stage.{asked, is_ours, locked};
 
 use crate::fault::Call;
-use crate::names::{SUFFIXES, name_beside};
+use crate::names::{SUFFIXES, name_beside, names_beside};
 use crate::{Disk, DiskFault, Found, Kind, Runner};
 use std::alloc::Global;
 use std::io::ErrorKind;
@@ -20,20 +20,25 @@ pub(crate) fn claim<D: Disk>(
     alloc: Global,
     disk: &mut D,
     path: &str,
+    magic: [u8; 8],
     old: Option<&Found>,
 ) -> Result<(D::File, String), DiskFault>
     ensures stage { IfOk result (λ claimed. D.stage claimed.0 ≡ Empty) }
+    ensures bytes { IfOk result (λ claimed. D.holds claimed.0 ≡ D.unwritten) }
     ensures beside { IfOk result (λ claimed. string_bytes claimed.1 ≢ path.now) }
 {
     for suffix in SUFFIXES {
         let Ok(name) = name_beside(alloc, path, suffix) else {
             return Err(DiskFault::Memory);
         };
-        if let Some(file) = claim_name(disk, &name, path, old)? {
+        if let Some(file) = claim_name(disk, &name, path, magic, old)? {
             return Ok((file, name));
         }
     }
-    Err(DiskFault::NoName)
+    match names_beside(alloc, path) {
+        Ok(names) => Err(DiskFault::NoName(names)),
+        Err(_) => Err(DiskFault::Memory),
+    }
 }
 
 // The same under one name; `None` where something has it that no save left, or it is that of the path, as a long one that
@@ -42,9 +47,11 @@ fn claim_name<D: Disk>(
     disk: &mut D,
     name: &str,
     path: &str,
+    magic: [u8; 8],
     old: Option<&Found>,
 ) -> Result<Option<D::File>, DiskFault>
     ensures stage { IfOk result (λ claimed. IfSome claimed (λ file. D.stage file ≡ Empty)) }
+    ensures bytes { IfOk result (λ claimed. IfSome claimed (λ file. D.holds file ≡ D.unwritten)) }
     ensures beside { IfOk result (λ claimed. IfSome claimed (λ _. name.now ≢ path.now)) }
 {
     if name == path {
@@ -54,7 +61,7 @@ fn claim_name<D: Disk>(
         Ok(found) => {
             let runner = disk.runner().ok();
             if is_left_over(&found, runner, old) {
-                take_over(disk, name, path, old)
+                take_over(disk, name, path, magic, old)
             } else {
                 Ok(None)
             }
@@ -73,7 +80,8 @@ fn is_left_over(found: &Found, runner: Option<Runner>, old: Option<&Found>) -> b
 
 // Makes a file. Where another save took it over at once, that one has it.
 fn make<D: Disk>(disk: &mut D, name: &str, old: Option<&Found>) -> Result<D::File, DiskFault>
-    ensures { IfOk result (λ file. D.stage file ≡ Empty) }
+    ensures stage { IfOk result (λ file. D.stage file ≡ Empty) }
+    ensures bytes { IfOk result (λ file. D.holds file ≡ D.unwritten) }
 {
     let mode = if old.is_some() { PRIVATE } else { USUAL };
     let mut file = match disk.make(name, mode) {
@@ -95,6 +103,7 @@ fn make<D: Disk>(disk: &mut D, name: &str, old: Option<&Found>) -> Result<D::Fil
 fn hold<D: Disk>(disk: &mut D, file: &mut D::File, name: &str) -> Result<(), DiskFault>
     requires { D.stage file.old ≡ Made }
     ensures ok { OnOk result (D.stage file.new ≡ Empty) }
+    ensures bytes { OnOk result (D.holds file.new ≡ D.unwritten) }
     ensures err { OnErr result (is_ours (D.stage file.new) ≡ true) }
 {
     own(disk, file, name)?;
@@ -105,15 +114,17 @@ fn hold<D: Disk>(disk: &mut D, file: &mut D::File, name: &str) -> Result<(), Dis
 }
 
 // Takes over what a save left: only once it is locked, and still the file of its name, which another save may have given
-// it a path under. Where there is no old file it is made anew, with the usual permissions.
+// it a path under, and if it is empty or begins as a page file; `None` where it doesn't. Where there is no old file it is made anew, with the usual permissions.
 fn take_over<D: Disk>(
     disk: &mut D,
     name: &str,
     path: &str,
+    magic: [u8; 8],
     old: Option<&Found>,
 ) -> Result<Option<D::File>, DiskFault>
     requires { name.now ≢ path.now }
-    ensures { IfOk result (λ taken. IfSome taken (λ file. D.stage file ≡ Empty)) }
+    ensures stage { IfOk result (λ taken. IfSome taken (λ file. D.stage file ≡ Empty)) }
+    ensures bytes { IfOk result (λ taken. IfSome taken (λ file. D.holds file ≡ D.unwritten)) }
 {
     let mut file = match disk.take(name, path) {
         Ok(file) => file,
@@ -122,6 +133,9 @@ fn take_over<D: Disk>(
         Err(error) => return Err(DiskFault::busy_at(ErrorKind::NotFound, Call::Make, error)),
     };
     own(disk, &mut file, name)?;
+    if !is_of_a_save(disk, name, magic)? {
+        return Ok(None);
+    }
     if old.is_none() {
         return match remake(disk, &file, name) {
             Ok(made) => Ok(Some(made)),
@@ -134,10 +148,23 @@ fn take_over<D: Disk>(
     }
 }
 
+// Whether a file is empty or begins as a page file, as far as it goes.
+fn is_of_a_save<D: Disk>(disk: &mut D, name: &str, magic: [u8; 8]) -> Result<bool, DiskFault> {
+    match disk.head(name) {
+        Ok(head) => {
+            let mut pairs = head.bytes.iter().zip(magic.iter()).enumerate();
+            Ok(pairs.all(|(at, (byte, wanted))| at as u64 >= head.found.size || byte == wanted))
+        }
+        Err(error) if error.kind() == ErrorKind::PermissionDenied => Ok(false),
+        Err(error) => Err(DiskFault::at(Call::Make, error)),
+    }
+}
+
 // Makes a file in place of what a save left.
 fn remake<D: Disk>(disk: &mut D, left: &D::File, name: &str) -> Result<D::File, DiskFault>
     requires { D.stage left.now ≡ OwnLeft }
-    ensures { IfOk result (λ file. D.stage file ≡ Empty) }
+    ensures stage { IfOk result (λ file. D.stage file ≡ Empty) }
+    ensures bytes { IfOk result (λ file. D.holds file ≡ D.unwritten) }
 {
     match disk.remove(left, name) {
         Ok(()) => make(disk, name, None),
@@ -148,7 +175,8 @@ fn remake<D: Disk>(disk: &mut D, left: &D::File, name: &str) -> Result<D::File, 
 // Empties what a save left, which nobody else may open by then, or takes its name away.
 fn clear<D: Disk>(disk: &mut D, left: &mut D::File, name: &str) -> Result<(), DiskFault>
     requires { D.stage left.old ≡ OwnLeft }
-    ensures { OnOk result (D.stage left.new ≡ Empty) }
+    ensures stage { OnOk result (D.stage left.new ≡ Empty) }
+    ensures bytes { OnOk result (D.holds left.new ≡ D.unwritten) }
 {
     let cleared = match disk.restrict(left) {
         Ok(()) => disk.empty(left),
@@ -182,6 +210,7 @@ pub(crate) fn see_own<D: Disk>(
 ) -> Result<(), DiskFault>
     ensures ok { OnOk result (D.stage file.new ≡ asked (D.stage file.old) true) }
     ensures err { OnErr result (D.stage file.new ≡ D.stage file.old) }
+    ensures bytes { D.holds file.new ≡ D.holds file.old }
 {
     match disk.confirm(file, name) {
         Ok(true) => Ok(()),

@@ -15,6 +15,7 @@ pub(crate) fn dress<D: Disk>(disk: &mut D, file: &mut D::File, old: &Found) -> i
     requires { D.stage file.old ≡ Empty }
     ensures ok { OnOk result (D.stage file.new ≡ Dressed) }
     ensures err { OnErr result (D.stage file.new ≡ Empty) }
+    ensures bytes { D.holds file.new ≡ D.holds file.old }
 {
     let has_owner = disk.give(file, Some(old.owner), None).is_ok();
     let has_group = disk.give(file, None, Some(old.group)).is_ok();

@@ -9,6 +9,7 @@ use thiserror::Error;
 pub enum Call {
     Ask,
     Open,
+    Hold,
     Make,
     Lock,
     Empty,
@@ -16,6 +17,7 @@ pub enum Call {
     Write,
     Synchronize,
     Rename,
+    Link,
 }
 
 impl fmt::Display for Call {
@@ -23,6 +25,7 @@ impl fmt::Display for Call {
         f.write_str(match self {
             Call::Ask => "asking what is there",
             Call::Open => "opening it",
+            Call::Hold => "locking it",
             Call::Make => "making a file beside it",
             Call::Lock => "locking the file beside it",
             Call::Empty => "emptying the file beside it",
@@ -30,6 +33,7 @@ impl fmt::Display for Call {
             Call::Write => "writing",
             Call::Synchronize => "synchronizing",
             Call::Rename => "renaming the file beside it",
+            Call::Link => "linking the file beside it",
         })
     }
 }
@@ -59,8 +63,8 @@ pub enum DiskFault {
     Changed,
     #[error("another save to it goes on")]
     Busy,
-    #[error("each name beside it is taken")]
-    NoName,
+    #[error("each name beside it is taken: {0}")]
+    NoName(String),
 }
 
 impl DiskFault {

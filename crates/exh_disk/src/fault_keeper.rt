@@ -1,34 +1,48 @@
+ghost use Rattle.std.specs.Prelude.{◌≡◌};
+
+use crate::Watch;
 use std::io;
 use std::io::Write;
 
-/// A writer that hands on what it gets, and keeps why the writer inside failed last.
+/// A writer that hands on what it gets, tells a watch of it, and keeps why the writer inside failed last.
 #[derive(Drop)]
-pub(crate) struct FaultKeeper<'w, W: Write> {
-    writer: &'w mut W,
+pub(crate) struct FaultKeeper<'v, W: Write + Drop, V: Watch> {
+    writer: W,
+    watch: &'v V,
     fault: Option<io::Error>,
 }
 
-impl<'w, W: Write> FaultKeeper<'w, W> {
-    pub(crate) fn new(writer: &'w mut W) -> FaultKeeper<'w, W> {
+impl<'v, W: Write + Drop, V: Watch> FaultKeeper<'v, W, V> {
+    pub(crate) fn new(writer: W, watch: &'v V) -> FaultKeeper<'v, W, V>
+        ensures { result.writer ≡ writer }
+    {
         FaultKeeper {
             writer,
+            watch,
             fault: None,
         }
     }
 
-    /// Why the writer failed last; where it took no bytes without a word, that.
-    pub(crate) fn into_fault(self) -> io::Error {
+    /// The writer, and why it failed last; where it took no bytes without a word, that.
+    pub(crate) fn into_parts(self) -> (W, io::Error)
+        ensures { result.0 ≡ self.entry.writer }
+    {
         match self.fault {
-            Some(fault) => fault,
-            None => io::Error::from(io::ErrorKind::WriteZero),
+            Some(fault) => (self.writer, fault),
+            None => (self.writer, io::Error::from(io::ErrorKind::WriteZero)),
         }
     }
 }
 
-impl<W: Write> Write for FaultKeeper<'_, W> {
+impl<W: Write + Drop, V: Watch> Write for FaultKeeper<'_, W, V> {
+    ghost contents = { λ keeper. W.contents keeper.writer };
+
     fn write(&mut self, bytes: &[u8]) -> io::Result<usize> {
         match self.writer.write(bytes) {
-            Ok(count) => Ok(count),
+            Ok(count) => {
+                self.watch.wrote(&bytes[..count]);
+                Ok(count)
+            }
             Err(fault) => {
                 let kind = fault.kind();
                 self.fault = Some(fault);

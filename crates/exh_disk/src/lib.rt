@@ -2,7 +2,7 @@
 //! order is code over any disk: the system's, or one in memory, which a test sets.
 #![tactic(auto)]
 
-pub use disk::{Disk, Source, SourceFault};
+pub use disk::{Disk, Source, SourceFault, Watch};
 pub use fault::{Call, DiskFault};
 pub use found::{Found, Head, Kind, Runner};
 pub use looking::look;
@@ -19,6 +19,7 @@ mod dressing;
 mod fault;
 mod fault_keeper;
 mod found;
+mod held;
 mod looking;
 mod names;
 mod path;

@@ -7,7 +7,11 @@ use std::alloc::Global;
 /// Whether a path can be saved to, as far as asking tells. Nothing is changed.
 ///
 /// On an `Err` a save there would fail so, if nothing changes until then.
-pub fn look<D: Disk>(alloc: Global, disk: &mut D, target: &Target<'_>) -> Result<(), DiskFault> {
+pub fn look<D: Disk>(
+    alloc: Global,
+    disk: &mut D,
+    target: &Target<'_, D::Opened>,
+) -> Result<(), DiskFault> {
     match path_to(alloc, disk, target.path)? {
         PathTo::Device => Ok(()),
         PathTo::File(path) => {

@@ -29,6 +29,19 @@ pub(crate) fn name_beside(alloc: Global, path: &str, suffix: &str) -> Result<Str
     Ok(name)
 }
 
+/// The names beside a path, each as a string of Rust's.
+pub(crate) fn names_beside(alloc: Global, path: &str) -> Result<String, AllocError> {
+    let mut names = String::new(alloc);
+    for suffix in SUFFIXES {
+        if !names.is_empty() {
+            names.push_str(", ")?;
+        }
+        let name = name_beside(alloc, path, suffix)?;
+        names.push_str(&format!(in alloc; "{name:?}")?)?;
+    }
+    Ok(names)
+}
+
 /// The name of a path's file in its folder.
 pub(crate) fn file_name_of(path: &str) -> &str
     ensures { length result.now ≤ length path.now }

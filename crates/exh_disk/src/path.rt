@@ -61,15 +61,16 @@ fn new_path<D: Disk>(alloc: Global, disk: &mut D, path: &str) -> Result<PathTo, 
 pub(crate) fn old_at<D: Disk>(
     disk: &mut D,
     path: &str,
-    target: &Target<'_>,
+    target: &Target<'_, D::Opened>,
 ) -> Result<Option<Found>, DiskFault> {
-    match there_at(disk, path)? {
-        Some(there) => match replaceable(disk, path, &there, target) {
-            Ok(()) => Ok(Some(there)),
-            Err(fault) => Err(fault),
-        },
-        None => Ok(None),
+    let there = there_at(disk, path)?;
+    if let Some(there) = &there {
+        see_replaceable(disk, path, there, target.magic)?;
     }
+    if let Some(seen) = target.seen {
+        seen.check(disk, target.path, path, there.as_ref())?;
+    }
+    Ok(there)
 }
 
 /// What has the name of a path; `None` where nothing has it.
@@ -81,12 +82,12 @@ pub(crate) fn there_at<D: Disk>(disk: &mut D, path: &str) -> Result<Option<Found
     }
 }
 
-// Whether a file may be replaced. What is no regular file by now isn't opened.
-fn replaceable<D: Disk>(
+// Sees that a file is empty or begins as a page file. What is no regular file by now isn't opened.
+fn see_replaceable<D: Disk>(
     disk: &mut D,
     path: &str,
     there: &Found,
-    target: &Target<'_>,
+    magic: [u8; 8],
 ) -> Result<(), DiskFault> {
     if there.kind != Kind::Regular {
         return Err(DiskFault::Changed);
@@ -98,11 +99,8 @@ fn replaceable<D: Disk>(
     if !there.is_unchanged(&head.found) {
         return Err(DiskFault::Changed);
     }
-    if there.size > 0 && head.bytes != target.magic {
+    if there.size > 0 && head.bytes != magic {
         return Err(DiskFault::NoPageFile);
     }
-    match target.seen {
-        Some(seen) if !seen.allows(path, there) => Err(DiskFault::NotAsOpened),
-        _ => Ok(()),
-    }
+    Ok(())
 }

@@ -1,24 +1,133 @@
-use crate::{Disk, Found};
+use crate::fault::Call;
+use crate::held::{hold, leads_to};
+use crate::{Disk, DiskFault, Found, Kind};
 use std::alloc::Global;
 use std::io;
+use std::io::ErrorKind;
 
-/// A file that was opened: its path without links, and what it was.
+/// A file that was opened, and is held open: the path that was named, and what the file was then.
 #[derive(Drop)]
-pub struct Seen {
+pub struct Seen<O: Drop> {
+    named: String,
+    opened: O,
+    about: io::Result<About>,
+}
+
+// What was asked of a file when it was opened.
+#[derive(Drop)]
+struct About {
+    // Its path without links.
     path: String,
     found: Found,
 }
 
-impl Seen {
-    /// What was opened at a path.
-    pub fn new<D: Disk>(alloc: Global, disk: &mut D, path: &str, found: Found) -> io::Result<Seen> {
-        let path = disk.whole_path(alloc, path)?;
-        Ok(Seen { path, found })
+impl<O: Drop> Seen<O> {
+    /// A file that was just opened at a path. Where the system doesn't say what it is, or where, that is kept, since it
+    /// keeps a save from replacing it.
+    ///
+    /// An error: memory ran out.
+    pub fn new<D: Disk<Opened = O>>(
+        alloc: Global,
+        disk: &mut D,
+        path: &str,
+        opened: O,
+    ) -> io::Result<Seen<O>> {
+        let about = match about_of(alloc, disk, path, &opened) {
+            Err(error) if error.kind() == ErrorKind::OutOfMemory => return Err(error),
+            about => about,
+        };
+        let named = String::from_str(alloc, path)?;
+        Ok(Seen {
+            named,
+            opened,
+            about,
+        })
     }
 
-    /// Whether what is at a path may be replaced: where that is the file that was opened, nobody wrote to it since.
-    pub(crate) fn allows(&self, path: &str, there: &Found) -> bool {
-        let is_at_path = self.path.as_str() == path || self.found.is_same(there);
-        !is_at_path || self.found.is_unchanged(there)
+    /// The file itself, to be read.
+    pub fn opened(&self) -> &O {
+        &self.opened
     }
+
+    /// Takes the lock of a regular file that was opened, which lasts as long as this, and answers whether the file is then
+    /// still at its path as it was.
+    ///
+    /// `Busy`: another run has the lock. `System`: the system doesn't say what is there, or has no locks.
+    pub fn lock<D: Disk<Opened = O>>(
+        &self,
+        alloc: Global,
+        disk: &mut D,
+    ) -> Result<bool, DiskFault> {
+        let about = match &self.about {
+            Ok(about) => about,
+            Err(error) => return Err(DiskFault::at(Call::Ask, *error)),
+        };
+        if about.found.kind != Kind::Regular {
+            return Ok(true);
+        }
+        let mut held = hold(disk, &self.opened)?;
+        if !leads_to(alloc, disk, &self.named, &about.path)? {
+            return Ok(false);
+        }
+        match disk.confirm_old(&mut held, &about.path, &about.found) {
+            Ok(is_there) => Ok(is_there),
+            Err(error) if error.kind() == ErrorKind::NotFound => Ok(false),
+            Err(error) => Err(DiskFault::at(Call::Ask, error)),
+        }
+    }
+
+    /// Whether what is to be saved to is where the file was opened, or is this file.
+    pub(crate) fn is_at(&self, named: &str, path: &str, there: &Found) -> bool {
+        let is_named = self.named.as_str() == named;
+        match &self.about {
+            Ok(about) => { is_named || about.path.as_str() == path || about.found.is_same(there) }
+            Err(_) => is_named,
+        }
+    }
+
+    /// Sees that what is at a path may be replaced, as far as this file goes: where it was named so when it was opened, it
+    /// must be there as it was; else only where it is there, or was.
+    pub(crate) fn check<D: Disk<Opened = O>>(
+        &self,
+        disk: &mut D,
+        named: &str,
+        path: &str,
+        there: Option<&Found>,
+    ) -> Result<(), DiskFault> {
+        let is_named = self.named.as_str() == named;
+        match (&self.about, there) {
+            (Ok(about), Some(there)) => about.check(is_named, path, there),
+            (Ok(_), None) if is_named => Err(DiskFault::NotAsOpened),
+            (Err(error), _) if is_named => Err(DiskFault::at(Call::Ask, *error)),
+            (Err(error), Some(there)) => match disk.ask_opened(&self.opened) {
+                Ok(opened) if !opened.is_same(there) => Ok(()),
+                _ => Err(DiskFault::at(Call::Ask, *error)),
+            },
+            (_, None) => Ok(()),
+        }
+    }
+}
+
+impl About {
+    fn check(&self, is_named: bool, path: &str, there: &Found) -> Result<(), DiskFault> {
+        let is_path = self.path.as_str() == path;
+        let is_at = is_path || !is_named && self.found.is_same(there);
+        let is_asked = is_named || is_at;
+        if is_asked && !(is_at && self.found.is_unchanged(there)) {
+            return Err(DiskFault::NotAsOpened);
+        }
+        Ok(())
+    }
+}
+
+// What a file is that was just opened at a path, and where.
+fn about_of<D: Disk>(
+    alloc: Global,
+    disk: &mut D,
+    path: &str,
+    opened: &D::Opened,
+) -> io::Result<About> {
+    let found = disk.ask_opened(opened)?;
+    let path = disk.whole_path(alloc, path)?;
+    Ok(About { path, found })
 }

@@ -28,7 +28,11 @@ pub enum Stage {
     Synchronized,
     /// The same, and it is still the file of its name.
     Confirmed,
-    /// It has its path.
+    /// It has its path, and the name beside it too.
+    Linked,
+    /// As before: the system has no links for it.
+    Unlinkable,
+    /// It has its path alone.
     Placed,
     /// It has its path on the disk too, as far as the system answers for that.
     Settled,

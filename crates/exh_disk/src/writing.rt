@@ -1,22 +1,29 @@
+ghost use Rattle.std.specs.Prelude.{OnOk};
+ghost use Rattle.std.specs.Io.KnownBytes.{Appends};
+
 use crate::fault::Call;
 use crate::fault_keeper::FaultKeeper;
-use crate::{DiskFault, Source, SourceFault};
+use crate::{DiskFault, Source, SourceFault, Watch};
 use std::io::Write;
 
-/// Writes a source to a writer, and gives it back. Where the writer failed, the fault is its own.
-pub(crate) fn write_source<W: Write, S: Source>(
-    writer: &mut W,
+/// Writes a source to a writer, tells a watch of its bytes, and gives both back. Where the writer failed, the fault is its
+/// own.
+pub(crate) fn write_source<W: Write + Drop, S: Source, V: Watch>(
+    writer: W,
     source: S,
-) -> (Result<(), DiskFault>, S)
-    ensures { S.leaves source result.1 }
+    watch: &V,
+) -> (Result<(), DiskFault>, S, W)
+    ensures leaves { S.leaves source result.1 }
+    ensures written { OnOk result.0 (Appends (W.contents writer) (W.contents result.2) (S.bytes source)) }
 {
-    let mut keeper = FaultKeeper::new(writer);
+    let mut keeper = FaultKeeper::new(writer, watch);
     let (written, source) = source.write_to(&mut keeper);
+    let (writer, fault) = keeper.into_parts();
     let written = match written {
         Ok(()) => Ok(()),
-        Err(SourceFault::Writer) => Err(DiskFault::at(Call::Write, keeper.into_fault())),
+        Err(SourceFault::Writer) => Err(DiskFault::at(Call::Write, fault)),
         Err(SourceFault::Memory) => Err(DiskFault::Memory),
         Err(SourceFault::Source) => Err(DiskFault::Source),
     };
-    (written, source)
+    (written, source, writer)
 }

@@ -4,6 +4,7 @@ use exh_disk::{Found, Kind, Stage};
 use std::alloc::{AllocError, Global};
 use std::io;
 use std::io::ErrorKind;
+use std::rc::Rc;
 
 /// The path, and the names that a save may use beside it.
 pub const NAMES: [&str; 5] = [
@@ -35,15 +36,43 @@ pub struct Node {
     pub bytes: Vec<u8>,
     /// Whether all of it is on the disk.
     pub is_kept: bool,
-    /// Which saver has the lock.
-    pub holder: Option<usize>,
+    /// By how many more than one it is open.
+    pub handles: Rc<usize>,
+    /// Which opening of it has the lock, as long as there is another handle of that.
+    pub holder: Option<Rc<usize>>,
 }
 
-/// An open file.
+/// A file that is open, and the number of this opening of it.
+#[derive(Drop)]
+pub struct MemoryOpened {
+    pub node: usize,
+    pub handle: Rc<usize>,
+    pub opening: Rc<usize>,
+}
+
+/// An open file that is on its way to the path.
 #[derive(Drop)]
 pub struct MemoryFile {
-    pub node: usize,
+    pub opened: MemoryOpened,
     pub stage: Stage,
+}
+
+/// The lock of an open file, and whether that was at its path at the last look.
+#[derive(Drop)]
+pub struct MemoryHeld {
+    pub opened: MemoryOpened,
+    pub stands: bool,
+}
+
+impl MemoryOpened {
+    /// One more handle of the same opening.
+    pub fn again(&self) -> Result<MemoryOpened, AllocError> {
+        Ok(MemoryOpened {
+            node: self.node,
+            handle: self.handle.clone()?,
+            opening: self.opening.clone()?,
+        })
+    }
 }
 
 /// A file system of few names.
@@ -57,8 +86,11 @@ pub struct MemoryDisk {
     pub kept: Option<usize>,
     /// Whether a file was at the path from the beginning.
     pub has_old: bool,
-    /// Which saver makes the calls.
-    pub saver: usize,
+    /// Whether a file may have two names.
+    pub has_links: bool,
+    /// Whether its clock goes on from one write to the next.
+    pub is_timed: bool,
+    pub openings: usize,
     pub time: i64,
     /// Whether something was done or might have been left that must not be.
     pub is_wrong: bool,
@@ -77,7 +109,9 @@ impl MemoryDisk {
             names: [None; 5],
             kept: None,
             has_old: false,
-            saver: 0,
+            has_links: true,
+            is_timed: true,
+            openings: 0,
             time: 0,
             is_wrong: false,
         }
@@ -85,12 +119,12 @@ impl MemoryDisk {
 
     /// Adds a file of a name, which is on the disk.
     pub fn add(&mut self, slot: usize, bytes: &[u8], mode: u32) -> Result<(), AllocError> {
-        self.time = self.time.wrapping_add(1);
+        self.pass();
         let node = Node {
             about: Found {
                 kind: Kind::Regular,
                 device: 1,
-                inode: self.nodes.len() as u64,
+                inode: self.free_number(),
                 links: 1,
                 size: bytes.len() as u64,
                 modified: (self.time, 0),
@@ -100,12 +134,75 @@ impl MemoryDisk {
             },
             bytes: Vec::from_slice(self.alloc, bytes)?,
             is_kept: true,
+            handles: counted(self.alloc, 0)?,
             holder: None,
         };
         let number = self.nodes.len();
         self.nodes.push(node)?;
         self.bind(slot, Some(number));
         Ok(())
+    }
+
+    /// Time goes on, where the clock does.
+    pub fn pass(&mut self) {
+        if self.is_timed {
+            self.time = self.time.wrapping_add(1);
+        }
+    }
+
+    // The first number that no file has which has a name, or is open.
+    fn free_number(&self) -> u64 {
+        let mut number: u64 = 0;
+        for _ in self.nodes.iter() {
+            if self.has_number(number) {
+                number = number.wrapping_add(1);
+            }
+        }
+        number
+    }
+
+    fn has_number(&self, number: u64) -> bool {
+        let mut nodes = self.nodes.iter().enumerate();
+        nodes.any(|(at, node)| node.about.inode == number && self.is_there(at, node))
+    }
+
+    fn is_there(&self, at: usize, node: &Node) -> bool {
+        Rc::strong_count(&node.handles) > 1 || self.names.iter().any(|name| *name == Some(at))
+    }
+
+    /// Opens a file by its number.
+    pub fn opened(&mut self, number: usize) -> io::Result<MemoryOpened> {
+        self.openings = self.openings.wrapping_add(1);
+        let opening = counted(self.alloc, self.openings)?;
+        Ok(MemoryOpened {
+            node: number,
+            handle: self.node(number)?.handles.clone()?,
+            opening,
+        })
+    }
+
+    /// Takes the lock of an open file, which one opening has at a time.
+    pub fn lock(&mut self, opened: &MemoryOpened) -> io::Result<()> {
+        let opening = opened.opening.clone()?;
+        let node = self.node_mut(opened.node)?;
+        if let Some(holder) = &node.holder {
+            if Rc::strong_count(holder) > 1 && **holder != *opening {
+                return fault(ErrorKind::WouldBlock);
+            }
+        }
+        node.holder = Some(opening);
+        Ok(())
+    }
+
+    /// Whether a lock is that of the file which has a name.
+    pub fn is_held(&self, name: &str, held: &MemoryHeld) -> bool {
+        match self.number(name) {
+            Ok(number) => match self.nodes.get(number) {
+                Some(node) => number == held.opened.node && has_lock(node, &held.opened),
+                None => false,
+            },
+            Err(_) => false,
+        }
     }
 
     /// Adds the old file, which has the path.
@@ -183,14 +280,20 @@ impl MemoryDisk {
         let number = self.names[0]?;
         Some(self.nodes.get(number)?.bytes.as_slice())
     }
+}
 
-    /// A saver ended, and with it its locks.
-    pub fn release(&mut self, saver: usize) {
-        for node in self.nodes.iter_mut() {
-            if node.holder == Some(saver) {
-                node.holder = None;
-            }
-        }
+// A number whose handles are counted.
+fn counted(alloc: Global, number: usize) -> Result<Rc<usize>, AllocError> {
+    match Rc::new(alloc, number) {
+        Ok(counted) => Ok(counted),
+        Err(_) => Err(AllocError),
+    }
+}
+
+fn has_lock(node: &Node, opened: &MemoryOpened) -> bool {
+    match &node.holder {
+        Some(holder) => **holder == *opened.opening,
+        None => false,
     }
 }
 

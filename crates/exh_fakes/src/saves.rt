@@ -1,21 +1,33 @@
 //! Saves over a file system in memory: what they leave where a call fails or a saver is killed, where another saver comes
 //! in between, and what they do with what has the name beside the path.
 
-use crate::memory_disk::{MemoryDisk, NAMES, OLD, OLD_MODE, SAVED, USER};
+use crate::memory_disk::{MemoryDisk, MemoryOpened, NAMES, OLD, OLD_MODE, SAVED, USER};
 use crate::side::{Ending, Nobody, OtherSaver, Saver, Side, save_as};
 use exh_disk::{Kind, Seen};
 use std::alloc::{AllocError, Global};
+use std::io;
 use std::test::Fail;
 
 // More calls than a save makes.
 const CALLS: usize = 40;
 // What a killed save may have left: longer than what is saved.
 const LEFT: &[u8] = b"EXHASHPF that was killed before it had its place";
-// Whether there is an old file, and something that a save left.
-const SCENES: [(bool, bool); 4] = [(true, true), (true, false), (false, true), (false, false)];
+// Whether there is an old file, something that a save left, and a system with links.
+const SCENES: [(bool, bool, bool); 6] = [
+    (true, true, true),
+    (true, false, true),
+    (false, true, true),
+    (false, false, true),
+    (false, true, false),
+    (false, false, false),
+];
 
-fn disk_of(alloc: Global, (has_old, has_left): (bool, bool)) -> Result<MemoryDisk, AllocError> {
+fn disk_of(
+    alloc: Global,
+    (has_old, has_left, has_links): (bool, bool, bool),
+) -> Result<MemoryDisk, AllocError> {
     let mut disk = MemoryDisk::new(alloc);
+    disk.has_links = has_links;
     if has_old {
         disk.add_old()?;
     }
@@ -25,10 +37,11 @@ fn disk_of(alloc: Global, (has_old, has_left): (bool, bool)) -> Result<MemoryDis
     Ok(disk)
 }
 
-// Whether nothing stands beside the path but what stood there before.
+// Whether nothing stands beside the path but what stood there before, or a second name of its file.
 fn is_clean(disk: &MemoryDisk, before: Option<usize>) -> bool {
     let first = disk.names[1];
-    (first.is_none() || first == before) && disk.names[2..].iter().all(|name| name.is_none())
+    let is_known = first.is_none() || first == before || first == disk.names[0];
+    is_known && disk.names[2..].iter().all(|name| name.is_none())
 }
 
 // Whether the path has what a saver of this number saved, and would after a power cut, where that is sure.
@@ -63,7 +76,8 @@ fn is_safe_when_killed(disk: &mut MemoryDisk, killed_at: usize) -> bool {
     let _ = save_as(disk, Saver::killed(0, killed_at), None, Nobody);
     let next = save_as(disk, Saver::new(1), None, Nobody);
     disk.see();
-    next == Ending::Settled && has_saved(disk, 1, next) && !disk.is_wrong && is_clean(disk, None)
+    let is_alone = disk.names[1..].iter().all(|name| name.is_none());
+    next == Ending::Settled && has_saved(disk, 1, next) && !disk.is_wrong && is_alone
 }
 
 // The number of the first call at which it isn't so.
@@ -90,12 +104,13 @@ fn loses_nothing_where_a_call_fails(rt: HostRuntime) -> Result<(), Fail> {
 // call of its own. Both saw the old file.
 fn is_safe_between(disk: &mut MemoryDisk, at: usize, killed_at: usize) -> bool {
     let seen = seen_in(disk);
+    let other_seen = seen_in(disk);
     let mut second = Ending::Refused;
     let other = OtherSaver {
         at,
         killed_at,
         calls: 0,
-        seen: seen.as_ref(),
+        seen: other_seen.as_ref(),
         ending: &mut second,
     };
     let first = save_as(disk, Saver::new(0), seen.as_ref(), other);
@@ -115,14 +130,14 @@ fn is_right_of_two(disk: &MemoryDisk, first: Ending, second: Ending, is_killed: 
 }
 
 // What a saver saw that opened the old file, where there is one.
-fn seen_in(disk: &mut MemoryDisk) -> Option<Seen> {
+fn seen_in(disk: &mut MemoryDisk) -> Option<Seen<MemoryOpened>> {
     if !disk.has_old {
         return None;
     }
-    let found = disk.nodes.first()?.about;
+    let opened = disk.opened(0).ok()?;
     let alloc = disk.alloc;
     let mut side = Side::new(disk, Saver::new(0), Nobody);
-    Seen::new(alloc, &mut side, NAMES[0], found).ok()
+    Seen::new(alloc, &mut side, NAMES[0], opened).ok()
 }
 
 fn wrong_between(alloc: Global) -> Result<Option<(usize, usize)>, AllocError> {
@@ -144,13 +159,56 @@ fn loses_nothing_where_another_save_comes_in_between(rt: HostRuntime) -> Result<
     Ok(())
 }
 
-// What has the first name beside the path, and is no save's: a pipe, a file of two names, one of another user.
+// A disk whose clock stands, with an old file as long as those that are saved.
+fn standing_disk(alloc: Global) -> Result<MemoryDisk, AllocError> {
+    let mut disk = MemoryDisk::new(alloc);
+    disk.is_timed = false;
+    disk.add(0, OLD, OLD_MODE)?;
+    disk.has_old = true;
+    disk.kept = disk.names[0];
+    Ok(disk)
+}
+
+// Two saves one after the other; whether the path then has a file of the number that the old one had.
+fn save_twice(disk: &mut MemoryDisk) -> bool {
+    let first = save_as(disk, Saver::new(1), None, Nobody);
+    let second = save_as(disk, Saver::new(1), None, Nobody);
+    let is_same = match inode_at_path(disk) {
+        Ok(inode) => inode == 0,
+        Err(_) => false,
+    };
+    first == Ending::Settled && second == Ending::Settled && is_same
+}
+
+fn inode_at_path(disk: &MemoryDisk) -> io::Result<u64> {
+    let number = disk.number(NAMES[0])?;
+    Ok(disk.node(number)?.about.inode)
+}
+
+#[test]
+fn a_file_that_is_open_keeps_its_number(rt: HostRuntime) -> Result<(), Fail> {
+    assert_eq!(rt; save_twice(&mut standing_disk(rt.alloc())?), true);
+    let mut disk = standing_disk(rt.alloc())?;
+    let seen = seen_in(&mut disk);
+    assert_eq!(rt; save_twice(&mut disk), false);
+    let ending = save_as(&mut disk, Saver::new(0), seen.as_ref(), Nobody);
+    assert_eq!(rt; ending == Ending::Refused, true);
+    assert_eq!(rt; disk.at_path() == Some(SAVED[1]), true);
+    Ok(())
+}
+
+// What has the first name beside the path, and is no save's: a pipe, a file of two names, one of another user, a text.
 fn strange_left_over(disk: &mut MemoryDisk, number: usize) {
     if let Some(node) = disk.nodes.last_mut() {
         match number {
             0 => node.about.kind = Kind::Other,
             1 => node.about.links = 2,
-            _ => node.about.owner = USER + 1,
+            2 => node.about.owner = USER + 1,
+            _ => {
+                if let Some(first) = node.bytes.first_mut() {
+                    *first = b'x';
+                }
+            }
         }
     }
 }
@@ -172,8 +230,8 @@ fn keeps_text(disk: &mut MemoryDisk) -> bool {
 
 #[test]
 fn replaces_and_takes_over_only_its_own(rt: HostRuntime) -> Result<(), Fail> {
-    for number in 0..3 {
-        let mut disk = disk_of(rt.alloc(), (true, true))?;
+    for number in 0..4 {
+        let mut disk = disk_of(rt.alloc(), (true, true, true))?;
         strange_left_over(&mut disk, number);
         assert_eq!(rt; takes_another_name(&mut disk), true, "at {number}");
     }

@@ -1,8 +1,12 @@
 //! What one saver sees of a file system in memory.
-ghost use Rattle.std.specs.Prelude.{◌≡◌};
+ghost use Rattle.std.specs.Prelude.{◌≡◌, None};
 
-use crate::memory_disk::{MAGIC, MemoryDisk, MemoryFile, NAMES, OLD_MODE, SAVED, USER, fault};
-use exh_disk::{Disk, Found, Head, Kind, Runner, Seen, Source, SourceFault, Stage, Target, save};
+use crate::memory_disk::{
+    MAGIC, MemoryDisk, MemoryFile, MemoryHeld, MemoryOpened, NAMES, OLD_MODE, SAVED, USER, fault,
+};
+use exh_disk::{
+    Disk, Found, Head, Kind, Runner, Seen, Source, SourceFault, Stage, Target, Watch, save,
+};
 use std::alloc::Global;
 use std::io;
 use std::io::{ErrorKind, Write};
@@ -72,7 +76,7 @@ pub struct OtherSaver<'s> {
     /// At which of its own calls it is killed, and 0 is none.
     pub killed_at: usize,
     pub calls: usize,
-    pub seen: Option<&'s Seen>,
+    pub seen: Option<&'s Seen<MemoryOpened>>,
     pub ending: &'s mut Ending,
 }
 
@@ -80,9 +84,7 @@ impl Between for OtherSaver<'_> {
     fn come(&mut self, disk: &mut MemoryDisk) {
         self.calls = self.calls.wrapping_add(1);
         if self.calls == self.at {
-            let first = disk.saver;
             *self.ending = save_as(disk, Saver::killed(1, self.killed_at), self.seen, Nobody);
-            disk.saver = first;
         }
     }
 }
@@ -91,48 +93,68 @@ impl Between for OtherSaver<'_> {
 pub fn save_as<B: Between + Drop>(
     disk: &mut MemoryDisk,
     saver: Saver,
-    seen: Option<&Seen>,
+    seen: Option<&Seen<MemoryOpened>>,
     between: B,
 ) -> Ending {
-    disk.saver = saver.number;
     let target = Target {
         path: NAMES[0],
         magic: MAGIC,
         seen,
     };
-    let bytes = Bytes {
-        saver: saver.number,
-    };
     let alloc = disk.alloc;
-    let (saved, _bytes) = save(alloc, &mut Side::new(disk, saver, between), &target, bytes);
-    let ending = match saved {
-        Ok(saved) if saved.folder.is_none() => Ending::Settled,
-        Ok(_) => Ending::Placed,
-        Err(_) => Ending::Refused,
+    let Some(saved) = SAVED.get(saver.number) else {
+        return Ending::Refused;
     };
-    disk.release(saver.number);
-    ending
+    let Ok(bytes) = Vec::from_slice(alloc, *saved) else {
+        return Ending::Refused;
+    };
+    let source = Bytes { bytes };
+    let (saved, _source) = save(
+        alloc,
+        &mut Side::new(disk, saver, between),
+        &target,
+        source,
+        &Unwatched,
+    );
+    match saved {
+        Ok(saved) => ending_of(saved.folder),
+        Err(_) => Ending::Refused,
+    }
+}
+
+// How a save ended that is done, by why its folder isn't on the disk.
+fn ending_of(folder: Option<io::Error>) -> Ending {
+    match folder {
+        Some(_) => Ending::Placed,
+        None => Ending::Settled,
+    }
 }
 
 /// A saver's bytes.
 #[derive(Drop)]
 struct Bytes {
-    saver: usize,
+    bytes: Vec<u8>,
 }
 
 impl Source for Bytes {
     ghost leaves = { λ old new. new ≡ old };
 
+    ghost bytes = { λ source. source.bytes.items };
+
     fn write_to<W: Write>(self, writer: &mut W) -> (Result<(), SourceFault>, Self) {
-        if let Some(bytes) = SAVED.get(self.saver) {
-            for piece in bytes.chunks(5) {
-                if writer.write_all(piece).is_err() {
-                    return (Err(SourceFault::Writer), self);
-                }
-            }
+        match writer.write_all(self.bytes.as_slice()) {
+            Ok(()) => (Ok(()), self),
+            Err(_) => (Err(SourceFault::Writer), self),
         }
-        (Ok(()), self)
     }
+}
+
+/// Nobody is told of what is written.
+#[derive(Drop)]
+struct Unwatched;
+
+impl Watch for Unwatched {
+    fn wrote(&self, _bytes: &[u8]) {}
 }
 
 /// One saver's calls, and who comes in between.
@@ -170,14 +192,42 @@ impl<'d, B: Between + Drop> Side<'d, B> {
         let number = self.disk.number(name)?;
         Ok(self.disk.node(number)?.about)
     }
+
+    // Gives the file of a name a path.
+    fn give_path(&mut self, name: &str, path: &str) -> io::Result<()> {
+        let (from, to) = (self.disk.slot(name)?, self.disk.slot(path)?);
+        let number = self.disk.number(name)?;
+        self.disk.bind(to, Some(number));
+        self.disk.bind(from, None);
+        Ok(())
+    }
+
+    // Takes a name away.
+    fn unlink(&mut self, name: &str) -> io::Result<()> {
+        let slot = self.disk.slot(name)?;
+        let number = self.disk.number(name)?;
+        self.disk.bind(slot, None);
+        self.disk.node_mut(number)?.about.links = 1;
+        Ok(())
+    }
 }
 
 impl<B: Between + Drop> Disk for Side<'_, B> {
     type File = MemoryFile;
 
+    type Opened = MemoryOpened;
+
+    type Held = MemoryHeld;
+
     type Device = Vec<u8>;
 
     ghost stage = { λ file. file.stage };
+
+    ghost unwritten = { None };
+
+    ghost holds = { λ _. None };
+
+    ghost stands = { λ held. held.stands };
 
     fn runner(&mut self) -> io::Result<Runner> {
         self.enter()?;
@@ -210,6 +260,40 @@ impl<B: Between + Drop> Disk for Side<'_, B> {
         Ok(Head { found, bytes })
     }
 
+    fn open_old(&mut self, path: &str) -> io::Result<MemoryOpened> {
+        self.enter()?;
+        let number = self.disk.number(path)?;
+        self.disk.opened(number)
+    }
+
+    fn ask_opened(&mut self, opened: &MemoryOpened) -> io::Result<Found> {
+        self.enter()?;
+        Ok(self.disk.node(opened.node)?.about)
+    }
+
+    fn hold(&mut self, opened: &MemoryOpened) -> io::Result<MemoryHeld> {
+        self.enter()?;
+        self.disk.lock(opened)?;
+        Ok(MemoryHeld {
+            opened: opened.again()?,
+            stands: false,
+        })
+    }
+
+    fn confirm_old(&mut self, held: &mut MemoryHeld, path: &str, was: &Found) -> io::Result<bool> {
+        let found = self.found(path)?;
+        let is_there = self.disk.node(held.opened.node)?.about.is_unchanged(&found);
+        held.stands = is_there && was.is_unchanged(&found);
+        Ok(held.stands)
+    }
+
+    fn unname_old(&mut self, held: &MemoryHeld, name: &str, path: &str) -> io::Result<()> {
+        self.enter()?;
+        let is_free = !self.disk.is_held(path, held);
+        self.disk.is_wrong |= is_free;
+        self.unlink(name)
+    }
+
     fn open(&mut self, _path: &str) -> io::Result<Vec<u8>> {
         fault(ErrorKind::Unsupported)
     }
@@ -231,7 +315,7 @@ impl<B: Between + Drop> Disk for Side<'_, B> {
         let node = self.disk.nodes.len();
         self.disk.add(slot, b"", mode & 0o644)?;
         Ok(MemoryFile {
-            node,
+            opened: self.disk.opened(node)?,
             stage: Stage::Made,
         })
     }
@@ -242,33 +326,28 @@ impl<B: Between + Drop> Disk for Side<'_, B> {
         let is_strange = self.disk.node(node)?.about.kind != Kind::Regular;
         self.disk.is_wrong |= is_strange;
         Ok(MemoryFile {
-            node,
+            opened: self.disk.opened(node)?,
             stage: Stage::Left,
         })
     }
 
     fn lock(&mut self, file: &mut MemoryFile) -> io::Result<()> {
         self.enter()?;
-        let saver = self.disk.saver;
-        let node = self.disk.node_mut(file.node)?;
-        if node.holder.is_some_and(|holder| holder != saver) {
-            return Err(io::Error::from(ErrorKind::WouldBlock));
-        }
-        node.holder = Some(saver);
+        self.disk.lock(&file.opened)?;
         file.stage = file.stage.locked();
         Ok(())
     }
 
     fn confirm(&mut self, file: &mut MemoryFile, name: &str) -> io::Result<bool> {
         let found = self.found(name)?;
-        let is_own = self.disk.node(file.node)?.about.is_only(&found);
+        let is_own = self.disk.node(file.opened.node)?.about.is_only(&found);
         file.stage = file.stage.asked(is_own);
         Ok(is_own)
     }
 
     fn restrict(&mut self, file: &mut MemoryFile) -> io::Result<()> {
         self.enter()?;
-        self.disk.node_mut(file.node)?.about.mode = 0o600;
+        self.disk.node_mut(file.opened.node)?.about.mode = 0o600;
         file.stage = Stage::Restricted;
         Ok(())
     }
@@ -276,7 +355,7 @@ impl<B: Between + Drop> Disk for Side<'_, B> {
     // A file that has bytes is emptied only where nobody else can open it that might not read the old file.
     fn empty(&mut self, file: &mut MemoryFile) -> io::Result<()> {
         self.enter()?;
-        let node = self.disk.node_mut(file.node)?;
+        let node = self.disk.node_mut(file.opened.node)?;
         let is_open = !node.bytes.is_empty() && node.about.mode & !OLD_MODE != 0;
         node.bytes.clear();
         node.about.size = 0;
@@ -298,7 +377,7 @@ impl<B: Between + Drop> Disk for Side<'_, B> {
     // A file has its permissions before its first byte.
     fn permit(&mut self, file: &mut MemoryFile, mode: u32) -> io::Result<()> {
         self.enter()?;
-        let node = self.disk.node_mut(file.node)?;
+        let node = self.disk.node_mut(file.opened.node)?;
         let is_late = !node.bytes.is_empty();
         node.about.mode = mode;
         self.disk.is_wrong |= is_late;
@@ -310,32 +389,68 @@ impl<B: Between + Drop> Disk for Side<'_, B> {
     fn write(&mut self, file: &mut MemoryFile, bytes: &[u8]) -> io::Result<usize> {
         file.stage = Stage::Written;
         self.enter()?;
-        let front = &bytes[..bytes.len().min(3)];
-        self.disk.time = self.disk.time.wrapping_add(1);
+        let count = bytes.len().min(3);
+        let front = &bytes[..count];
+        self.disk.pass();
         let (time, has_old) = (self.disk.time, self.disk.has_old);
-        let node = self.disk.node_mut(file.node)?;
+        let node = self.disk.node_mut(file.opened.node)?;
         node.bytes.extend_from_slice(front)?;
         node.is_kept = false;
         node.about.size = node.bytes.len() as u64;
         node.about.modified = (time, 0);
         let is_open = has_old && node.about.mode & !OLD_MODE != 0;
         self.disk.is_wrong |= is_open;
-        Ok(front.len())
+        Ok(count)
     }
 
     fn synchronize(&mut self, file: &mut MemoryFile) -> io::Result<()> {
         self.enter()?;
-        self.disk.node_mut(file.node)?.is_kept = true;
+        self.disk.node_mut(file.opened.node)?.is_kept = true;
         file.stage = Stage::Synchronized;
         Ok(())
     }
 
-    fn rename(&mut self, file: &mut MemoryFile, name: &str, path: &str) -> io::Result<()> {
+    // A file is replaced only under its lock.
+    fn rename(
+        &mut self,
+        file: &mut MemoryFile,
+        name: &str,
+        path: &str,
+        held: &MemoryHeld,
+    ) -> io::Result<()> {
         self.enter()?;
-        let (from, to) = (self.disk.slot(name)?, self.disk.slot(path)?);
-        let number = self.disk.number(name)?;
+        let is_free = !self.disk.is_held(path, held);
+        self.disk.is_wrong |= is_free;
+        self.give_path(name, path)?;
+        file.stage = Stage::Placed;
+        Ok(())
+    }
+
+    fn link(&mut self, file: &mut MemoryFile, name: &str, path: &str) -> io::Result<bool> {
+        self.enter()?;
+        if !self.disk.has_links {
+            file.stage = Stage::Unlinkable;
+            return Ok(false);
+        }
+        if self.disk.number(path).is_ok() {
+            return Err(io::Error::from(ErrorKind::AlreadyExists));
+        }
+        let (to, number) = (self.disk.slot(path)?, self.disk.number(name)?);
         self.disk.bind(to, Some(number));
-        self.disk.bind(from, None);
+        self.disk.node_mut(number)?.about.links = 2;
+        file.stage = Stage::Linked;
+        Ok(true)
+    }
+
+    fn unname(&mut self, file: &mut MemoryFile, name: &str) -> io::Result<()> {
+        file.stage = Stage::Placed;
+        self.enter()?;
+        self.unlink(name)
+    }
+
+    fn rename_new(&mut self, file: &mut MemoryFile, name: &str, path: &str) -> io::Result<()> {
+        self.enter()?;
+        self.give_path(name, path)?;
         file.stage = Stage::Placed;
         Ok(())
     }
@@ -349,9 +464,6 @@ impl<B: Between + Drop> Disk for Side<'_, B> {
 
     fn remove(&mut self, _file: &MemoryFile, name: &str) -> io::Result<()> {
         self.enter()?;
-        let slot = self.disk.slot(name)?;
-        self.disk.number(name)?;
-        self.disk.bind(slot, None);
-        Ok(())
+        self.unlink(name)
     }
 }

@@ -2,10 +2,12 @@
 #![tactic(auto)]
 
 pub use exh_disk::{DiskFault, Seen};
+pub use opening::open_above;
 pub use path::{look_at, save_at};
-pub use system_disk::{SystemDisk, SystemFile};
+pub use system_disk::{OpenedFile, SystemDisk, SystemFile, SystemHeld};
 
 mod found;
+mod opening;
 mod path;
 mod system_disk;
 mod wards;

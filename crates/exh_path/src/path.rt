@@ -1,8 +1,11 @@
 ghost use Rattle.std.specs.Prelude.{◌≡◌, IfOk, IfSome};
 ghost use Rattle.exh_disk.specs.declared.stage.Stage.TheVariants.{Settled};
-ghost use Rattle.exh_file.specs.Saved.{IsLeft};
+ghost use Rattle.std.specs.Io.KnownBytes.{Appends};
+ghost use Rattle.exh_file.specs.Saved.{IsLeft, written_file};
+ghost use Rattle.exh_format.specs.FileVersion.{written_format};
+ghost use Rattle.exh_format.specs.PageFile.{file_bytes};
 
-use crate::wards::Wards;
+use crate::wards::{Metered, Wards};
 use exh_disk::{Disk, DiskFault, Saved, Seen, Target, look, save};
 use exh_file::Opened;
 use exh_stores::Pages;
@@ -20,7 +23,7 @@ pub fn look_at<D: Disk>(
     alloc: Global,
     disk: &mut D,
     path: &str,
-    seen: Option<&Seen>,
+    seen: Option<&Seen<D::Opened>>,
 ) -> Result<(), DiskFault> {
     look(alloc, disk, &target_at(path, seen))
 }
@@ -34,19 +37,27 @@ pub fn save_at<D: Disk, P: Pages + Drop, T: Terminal>(
     alloc: Global,
     disk: &mut D,
     path: &str,
-    seen: Option<&Seen>,
+    seen: Option<&Seen<D::Opened>>,
     opened: Opened<P>,
     meter: &Meter<T>,
 ) -> (Result<Saved<D::File>, DiskFault>, Opened<P>)
+    ensures bytes { IfOk result.0 (λ saved. IfSome saved.file (λ file.
+        Appends D.unwritten (D.holds file) (file_bytes written_format (written_file opened)))) }
     ensures settled { IfOk result.0 (λ saved. IfSome saved.file (λ file. D.stage file ≡ Settled)) }
     ensures wards { IsLeft opened result.1 }
 {
-    let wards = Wards { opened, meter };
-    let (saved, wards) = save(alloc, disk, &target_at(path, seen), wards);
+    let wards = Wards { opened };
+    let (saved, wards) = save(
+        alloc,
+        disk,
+        &target_at(path, seen),
+        wards,
+        &Metered { meter },
+    );
     (saved, wards.opened)
 }
 
-fn target_at<'t>(path: &'t str, seen: Option<&'t Seen>) -> Target<'t> {
+fn target_at<'t, O: Drop>(path: &'t str, seen: Option<&'t Seen<O>>) -> Target<'t, O> {
     Target {
         path,
         magic: MAGIC,

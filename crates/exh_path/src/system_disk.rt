@@ -1,10 +1,11 @@
-ghost use Rattle.std.specs.Prelude.{◌≡◌};
+ghost use Rattle.std.specs.Prelude.{◌≡◌, None};
 
 use crate::found::found_of;
+use crate::opening::{open_above, open_with};
 use exh_disk::{Disk, Found, Head, Runner, Seen, Stage};
 use std::alloc::Global;
 use std::fs::{File, OpenOptions, Permissions};
-use std::io::{Read, Write};
+use std::io::{ErrorKind, Read, Write};
 use std::os::unix::fs::{MetadataExt, OpenOptionsExt, PermissionsExt, fchown};
 use std::{fs, io};
 
@@ -21,26 +22,45 @@ pub struct SystemFile {
     stage: Stage,
 }
 
+/// The lock of a file of the system, and whether that was at its path at the last look.
+#[derive(Drop)]
+pub struct SystemHeld {
+    file: File,
+    stands: bool,
+}
+
+/// A file of the system that was opened at a path, and is held open.
+pub type OpenedFile = Seen<File>;
+
 impl<'r> SystemDisk<'r> {
     pub fn new(rt: &'r HostRuntime) -> SystemDisk<'r> {
         SystemDisk { rt }
     }
 
-    /// What a file is that was opened at a path, so that a save sees whether it is still the same.
+    /// A file that was opened at a path and is held open, so that a save sees whether it is still there as it was.
     ///
-    /// An error: the system doesn't say what it is, or where.
-    pub fn seen(&mut self, path: &str, opened: &File) -> io::Result<Seen> {
-        let found = found_of(&opened.metadata()?);
-        Seen::new(self.rt.alloc(), self, path, found)
+    /// An error: memory ran out.
+    pub fn seen(&mut self, path: &str, opened: File) -> io::Result<OpenedFile> {
+        Seen::new(self.rt.alloc(), self, path, opened)
     }
 }
 
 impl Disk for SystemDisk<'_> {
     type File = SystemFile;
 
+    type Opened = File;
+
+    type Held = SystemHeld;
+
     type Device = File;
 
     ghost stage = { λ file. file.stage };
+
+    ghost unwritten = { None };
+
+    ghost holds = { λ _. None };
+
+    ghost stands = { λ held. held.stands };
 
     // The folder that the system has of a process is of whom that runs for.
     fn runner(&mut self) -> io::Result<Runner> {
@@ -65,17 +85,47 @@ impl Disk for SystemDisk<'_> {
 
     fn head(&mut self, path: &str) -> io::Result<Head> {
         let mut bytes = [0; 8];
-        let mut file = OpenOptions::new()
-            .read(true)
-            .write(true)
-            .open(self.rt, path)?;
+        let mut options = OpenOptions::new();
+        options.read(true).write(true);
+        let mut file = open_with(self.rt, &options, path)?;
         let found = found_of(&file.metadata()?);
         file.read(&mut bytes)?;
         Ok(Head { found, bytes })
     }
 
+    fn open_old(&mut self, path: &str) -> io::Result<File> {
+        open_above(self.rt, path)
+    }
+
+    fn ask_opened(&mut self, opened: &File) -> io::Result<Found> {
+        Ok(found_of(&opened.metadata()?))
+    }
+
+    // The lock is of all handles of one opening.
+    fn hold(&mut self, opened: &File) -> io::Result<SystemHeld> {
+        opened.try_lock()?;
+        let file = opened.try_clone()?;
+        Ok(SystemHeld {
+            file,
+            stands: false,
+        })
+    }
+
+    fn confirm_old(&mut self, held: &mut SystemHeld, path: &str, was: &Found) -> io::Result<bool> {
+        let named = found_of(&fs::symlink_metadata(self.rt, path)?);
+        let is_there = found_of(&held.file.metadata()?).is_unchanged(&named);
+        held.stands = is_there && was.is_unchanged(&named);
+        Ok(held.stands)
+    }
+
+    fn unname_old(&mut self, _held: &SystemHeld, name: &str, _path: &str) -> io::Result<()> {
+        fs::remove_file(self.rt, name)
+    }
+
     fn open(&mut self, path: &str) -> io::Result<File> {
-        OpenOptions::new().write(true).open(self.rt, path)
+        let mut options = OpenOptions::new();
+        options.write(true);
+        open_with(self.rt, &options, path)
     }
 
     fn ask_device(&mut self, device: &File) -> io::Result<Found> {
@@ -88,11 +138,8 @@ impl Disk for SystemDisk<'_> {
 
     fn make(&mut self, name: &str, mode: u32) -> io::Result<SystemFile> {
         let mut options = OpenOptions::new();
-        let file = options
-            .write(true)
-            .create_new(true)
-            .mode(mode)
-            .open(self.rt, name)?;
+        options.write(true).create_new(true).mode(mode);
+        let file = open_with(self.rt, &options, name)?;
         Ok(SystemFile {
             file,
             stage: Stage::Made,
@@ -100,7 +147,9 @@ impl Disk for SystemDisk<'_> {
     }
 
     fn take(&mut self, name: &str, _path: &str) -> io::Result<SystemFile> {
-        let file = OpenOptions::new().write(true).open(self.rt, name)?;
+        let mut options = OpenOptions::new();
+        options.write(true);
+        let file = open_with(self.rt, &options, name)?;
         Ok(SystemFile {
             file,
             stage: Stage::Left,
@@ -158,7 +207,41 @@ impl Disk for SystemDisk<'_> {
         Ok(())
     }
 
-    fn rename(&mut self, file: &mut SystemFile, name: &str, path: &str) -> io::Result<()> {
+    fn rename(
+        &mut self,
+        file: &mut SystemFile,
+        name: &str,
+        path: &str,
+        _held: &SystemHeld,
+    ) -> io::Result<()> {
+        fs::rename(self.rt, name, path)?;
+        file.stage = Stage::Placed;
+        Ok(())
+    }
+
+    // A system that has no links for a file denies them, or knows no such call.
+    fn link(&mut self, file: &mut SystemFile, name: &str, path: &str) -> io::Result<bool> {
+        match fs::hard_link(self.rt, name, path) {
+            Ok(()) => {
+                file.stage = Stage::Linked;
+                Ok(true)
+            }
+            Err(error) => match error.kind() {
+                ErrorKind::PermissionDenied | ErrorKind::Unsupported => {
+                    file.stage = Stage::Unlinkable;
+                    Ok(false)
+                }
+                _ => Err(error),
+            },
+        }
+    }
+
+    fn unname(&mut self, file: &mut SystemFile, name: &str) -> io::Result<()> {
+        file.stage = Stage::Placed;
+        fs::remove_file(self.rt, name)
+    }
+
+    fn rename_new(&mut self, file: &mut SystemFile, name: &str, path: &str) -> io::Result<()> {
         fs::rename(self.rt, name, path)?;
         file.stage = Stage::Placed;
         Ok(())
@@ -166,7 +249,7 @@ impl Disk for SystemDisk<'_> {
 
     fn synchronize_folder(&mut self, file: &mut SystemFile, folder: &str) -> io::Result<()> {
         file.stage = Stage::Settled;
-        File::open(self.rt, folder)?.sync_all()
+        open_above(self.rt, folder)?.sync_all()
     }
 
     fn remove(&mut self, _file: &SystemFile, name: &str) -> io::Result<()> {

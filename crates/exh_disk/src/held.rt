@@ -1,0 +1,116 @@
+//! The file that a save replaces, under its lock.
+ghost use Rattle.std.specs.Prelude.{◌≡◌, ◌≢◌, IfOk, OnOk, false, string_bytes, true};
+
+use crate::fault::Call;
+use crate::names::{SUFFIXES, name_beside};
+use crate::path::old_at;
+use crate::{Disk, DiskFault, Found, Target};
+use std::alloc::Global;
+use std::io::ErrorKind;
+
+/// The file that a save replaces, and its lock.
+#[derive(Drop)]
+pub(crate) struct Old<H: Drop> {
+    pub(crate) found: Found,
+    pub(crate) held: H,
+}
+
+/// The file at a path, which a save may replace, under its lock: that of the opened file, where it is this one. `None`
+/// where nothing is there.
+pub(crate) fn hold_old<D: Disk>(
+    disk: &mut D,
+    path: &str,
+    target: &Target<'_, D::Opened>,
+) -> Result<Option<Old<D::Held>>, DiskFault> {
+    let Some(found) = old_at(disk, path, target)? else {
+        return Ok(None);
+    };
+    let held = match target.seen {
+        Some(seen) if seen.is_at(target.path, path, &found) => hold(disk, seen.opened())?,
+        _ => hold_path(disk, path)?,
+    };
+    Ok(Some(Old { found, held }))
+}
+
+// Opens and locks a file that the run hasn't opened.
+fn hold_path<D: Disk>(disk: &mut D, path: &str) -> Result<D::Held, DiskFault> {
+    match disk.open_old(path) {
+        Ok(opened) => hold(disk, &opened),
+        Err(error) => Err(DiskFault::at(Call::Open, error)),
+    }
+}
+
+/// Takes the lock of an opened file.
+pub(crate) fn hold<D: Disk>(disk: &mut D, opened: &D::Opened) -> Result<D::Held, DiskFault> {
+    match disk.hold(opened) {
+        Ok(held) => Ok(held),
+        Err(error) => Err(DiskFault::busy_at(ErrorKind::WouldBlock, Call::Hold, error)),
+    }
+}
+
+/// Sees that a path still leads to the locked file, as it was.
+pub(crate) fn see_held<D: Disk>(
+    alloc: Global,
+    disk: &mut D,
+    path: &str,
+    named: &str,
+    old: &mut Old<D::Held>,
+) -> Result<(), DiskFault>
+    ensures { OnOk result (D.stands old.new.held ≡ true) }
+{
+    if !leads_to(alloc, disk, named, path)? {
+        return Err(DiskFault::Changed);
+    }
+    match disk.confirm_old(&mut old.held, path, &old.found) {
+        Ok(true) => Ok(()),
+        Ok(false) => Err(DiskFault::Changed),
+        Err(error) if error.kind() == ErrorKind::NotFound => Err(DiskFault::Changed),
+        Err(error) => Err(DiskFault::at(Call::Ask, error)),
+    }
+}
+
+/// Whether a path leads to another one, which has no links.
+pub(crate) fn leads_to<D: Disk>(
+    alloc: Global,
+    disk: &mut D,
+    named: &str,
+    path: &str,
+) -> Result<bool, DiskFault> {
+    match disk.whole_path(alloc, named) {
+        Ok(whole) => Ok(whole.as_str() == path),
+        Err(error) if error.kind() == ErrorKind::NotFound => Ok(false),
+        Err(error) => Err(DiskFault::at(Call::Ask, error)),
+    }
+}
+
+/// Takes away the names beside a path that are others of the file that is there: a save that was killed once the file had
+/// its path left one.
+pub(crate) fn clear_names<D: Disk>(
+    alloc: Global,
+    disk: &mut D,
+    path: &str,
+    old: &Old<D::Held>,
+) -> Result<(), DiskFault> {
+    if old.found.links == 1 {
+        return Ok(());
+    }
+    for suffix in SUFFIXES {
+        let Ok(name) = name_beside(alloc, path, suffix) else {
+            return Err(DiskFault::Memory);
+        };
+        clear_name(disk, &name, path, old);
+    }
+    Ok(())
+}
+
+// Where a name isn't taken away another one is used.
+fn clear_name<D: Disk>(disk: &mut D, name: &str, path: &str, old: &Old<D::Held>) {
+    if name == path {
+        return;
+    }
+    if let Ok(found) = disk.ask_name(name) {
+        if found.is_same(&old.found) {
+            let _ = disk.unname_old(&old.held, name, path);
+        }
+    }
+}
