@@ -13,9 +13,8 @@ use crate::service::{NAMES, serve};
 use anyhow::Context;
 use exh_file::{Opened, open};
 use exh_frames::FileStore;
-use exh_path::{Seen, SystemDisk, save_at};
+use exh_path::{OpenedFile, SystemDisk, open_above, save_at};
 use exh_stream::{Console, Meter, Unit, Work};
-use std::fs::File;
 use std::str;
 
 // The page file. It was made by `exhash load people.exh`.
@@ -32,13 +31,12 @@ fn main(rt: HostRuntime) -> anyhow::Result<()> {
     save(&rt, PATH, &seen, served.opened)
 }
 
-// The wards of the page file of a path, and what the file is.
-fn open_at(rt: &HostRuntime, path: &str) -> anyhow::Result<(Opened<FileStore>, Seen)>
+// The wards of the page file of a path, and the file, which is held open.
+fn open_at(rt: &HostRuntime, path: &str) -> anyhow::Result<(Opened<FileStore>, OpenedFile)>
     ensures { IfOk result (λ opened. AreUnasked opened.0) }
 {
-    let mut file = File::open(rt, path)?;
-    let seen = SystemDisk::new(rt).seen(path, &file)?;
-    let opened = open(rt.alloc(), &mut file)?;
+    let seen = SystemDisk::new(rt).seen(path, open_above(rt, path)?)?;
+    let opened = open(rt.alloc(), &mut seen.opened())?;
     Ok((opened, seen))
 }
 
@@ -46,7 +44,7 @@ fn open_at(rt: &HostRuntime, path: &str) -> anyhow::Result<(Opened<FileStore>, S
 fn save(
     rt: &HostRuntime,
     path: &str,
-    seen: &Seen,
+    seen: &OpenedFile,
     opened: Opened<FileStore>,
 ) -> anyhow::Result<()> {
     let work = Work {

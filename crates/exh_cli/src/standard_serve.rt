@@ -4,17 +4,17 @@ ghost use Rattle.exh_job.specs.JobPath.{SavesAt};
 use crate::serve_script::{ending_of, serve_script};
 use exh_job::{Ending, FileWards, INPUT, JobPath, opened_at, tell_reason, warn};
 use exh_notes::{Expect, Notes, ReasonReader};
-use exh_path::Seen;
+use exh_path::OpenedFile;
 use std::cell::Cell;
 use std::io;
 
-/// Answers the script on standard input, over the page file of a path where one is to be opened, and says what that
-/// file is. Whether its wards can be saved at their path is seen before.
+/// Answers the script on standard input, over the page file of a path where one is to be opened, which is held
+/// open. Whether its wards can be saved at their path is seen before.
 pub(crate) fn serve<'w>(
     rt: &HostRuntime,
     open: Option<&str>,
     save: Option<JobPath<'w>>,
-) -> (Ending<'w>, Option<Seen>)
+) -> (Ending<'w>, Option<OpenedFile>)
     ensures { SavesAt save.entry result.0 }
 {
     match opened_at(rt, open) {

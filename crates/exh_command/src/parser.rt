@@ -315,13 +315,15 @@ It gives the key the value in the file, and prints one line:
 KEY is 1 to 64 bytes, VALUE 0 to 128: characters ! to ~, the first not #; or #
 and for each byte two digits of 0 to 9 and a to f.
 
-The file is read whole, and tested and refused as by `exhash check`. It is saved
-as by `exhash serve`: it is there whole until the new one is, and stays where
-another run has saved over it since; nothing is printed then, and standard error
-says why. After `full` it isn't touched.
+The file is locked, read whole, and tested and refused as by `exhash check`. It
+is saved as by `exhash serve`: it is there whole until the new one is, and stays
+where another run has locked it, or has saved over it since; nothing is printed
+then, and standard error says why. After `full` it isn't touched. Where it is
+saved and the line can't be printed, standard error says so.
 
 Exit status: 0 where the file has the value now; 3 after `full`; 1 where it is
-refused or not saved; 2 where the command line is wrong, or asks for help.
+refused or not saved, or the line not printed; 2 where the command line is
+wrong, or asks for help.
 The formats are in docs/FORMATS.md.";
 
 const DEL_USAGE: &str = "exhash del PATH KEY
@@ -339,8 +341,8 @@ It reads and saves the file as `exhash put` does, and after `none` it isn't
 touched. KEY is as there.
 
 Exit status: 0 where the key is out now; 3 where it wasn't there; 1 where the
-file is refused or not saved; 2 where the command line is wrong, or asks for
-help.
+file is refused or not saved, or the line not printed; 2 where the command line
+is wrong, or asks for help.
 The formats are in docs/FORMATS.md.";
 
 const SWAP_USAGE: &str = "exhash swap PATH KEY OLD NEW
@@ -360,8 +362,8 @@ It reads and saves the file as `exhash put` does, and after `differs` and `none`
 it isn't touched. KEY is as there, OLD and NEW as VALUE.
 
 Exit status: 0 where the file has NEW now; 3 after `differs` and `none`; 1 where
-the file is refused or not saved; 2 where the command line is wrong, or asks for
-help.
+the file is refused or not saved, or the line not printed; 2 where the command
+line is wrong, or asks for help.
 The formats are in docs/FORMATS.md.";
 
 const PAIRS_USAGE: &str = "exhash pairs PATH [--cap N] [--wards N] [--keyer K]
@@ -412,8 +414,16 @@ The formats are in docs/FORMATS.md.";
 const ENDS: &str = "\
 Only an empty file, or one that begins as a page file, is saved over. It is
 there whole until the new one is whole and on the disk, and where that fails it
-stays. Of two saves to one path at once one is refused; a run doesn't save over
-the file that it opened where another saved over that since.
+stays. The new one is another file: it has the old one's mode and, where the
+system allows it, owner and group, but not its access lists, its extended
+attributes and its hard links; its group may do what the mode says.
+One run at a time saves to a file. put, del and swap lock it from before they
+read it until it is saved, load and serve to save it; a file that another
+process has locked isn't saved to, nor is one on a file system without locks,
+and no run waits. Who may read a file may lock it, and so keep others from
+saving to it. Of two runs that opened one file the later to save is refused, so
+that nothing that was saved is lost. Programs that write without these locks are
+noticed only if they are done before the save.
 Page files of the first version and of the second are read, and told alike. What
 is saved is of the second, which programs that know the first alone refuse with
 37. A key for which a page of the first had no room for good may find some.

@@ -1,5 +1,5 @@
 -- The file of sound wards is a legal page file, and what is opened from it is these wards begun anew.
-use Rattle.std.proofs.Common.{◌≡◌, Result, Ok, Err, OnOk, ℕ, suc, ◌+◌, ◌-◌, ◌^◌, ◌<◌, ◌≤◌, Bool, true, List, [], ◌∷◌, length, map, get_or, replicate, slice_get, Some, inl, inr, refl, sym, ap, ◌∙◌, subst, arith}
+use Rattle.std.proofs.Common.{◌≡◌, Result, Ok, Err, OnOk, ℕ, suc, ◌+◌, ◌-◌, ◌^◌, ◌<◌, ◌≤◌, Bool, List, [], ◌∷◌, length, map, get_or, replicate, slice_get, Some, inl, inr, refl, sym, ap, ◌∙◌, subst, arith}
 use Rattle.std.specs.FinMap.{empty, entries, entries_sorted, from_entries, get-entries}
 use Rattle.std.specs.FinMap.Entries.{find}
 use Rattle.std.specs.List.{AllByRecursion}
@@ -157,7 +157,7 @@ module _ (opened : OpenedState) (are : AreWardsOf opened) (sound : AreSound open
           let header = header_of opened in
           let pages : get_or (pages_of_all opened.wards) number [] ≡ ward.pages = get_or_from_slice_get (pages_of_all opened.wards) number ward.pages [] (slice_get-map (λ (w : WardState AnyKeyer). w.pages) opened.wards number ∙ ap (option_map (λ (w : WardState AnyKeyer). w.pages)) there) in
           let with_settings : ℕ → ℕ → ℕ → AnyKeyer → WardState AnyKeyer
-          = λ cap bits number keyer. record { pages = ward.pages; base = map_of ward.pages; has_base = true; journal = []; start = ward.table; notices = []; table = ward.table; failures = made.failures; cap = cap; ward_bits = bits; number = number; keyer = keyer } in
+          = λ cap bits number keyer. record { pages = ward.pages; base = map_of ward.pages; journal = []; start = ward.table; notices = []; table = ward.table; failures = made.failures; cap = cap; ward_bits = bits; number = number; keyer = keyer } in
           (is.each number made at).is
           ∙ ap (λ (ps : List Page). ward_opened header number ps (table_naming items number) made.failures) pages
           ∙ ap (λ (table : TableMap). ward_opened header number ward.pages table made.failures) (own_named number ward there)

@@ -1,5 +1,5 @@
 -- The wards that opening a page file gives.
-use Rattle.std.specs.Prelude.{⊤, ◌≡◌, ℕ, true, List, [], length, get_or, slice_get, Option, Some, Vec}
+use Rattle.std.specs.Prelude.{⊤, ◌≡◌, ℕ, List, [], length, get_or, slice_get, Option, Some, Vec}
 use Rattle.std.specs.declared.alloc.Global.{Global}
 use Rattle.std.specs.List.{AllByRecursion}
 use Rattle.exh_prefix.specs.Leading.{ward_prefix}
@@ -25,7 +25,6 @@ abbrev pub ward_opened : Header → ℕ → List Page → TableMap → ℕ → W
 ward_opened header number pages table failures = record {
   pages = pages;
   base = map_of pages;
-  has_base = true;
   journal = [];
   start = table;
   notices = [];

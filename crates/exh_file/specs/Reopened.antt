@@ -1,5 +1,5 @@
 -- Wards that were written, and wards that are opened from what was written.
-use Rattle.std.specs.Prelude.{◌≡◌, ℕ, true, List, [], ◌++◌, length, take, drop, slice_get, Some}
+use Rattle.std.specs.Prelude.{◌≡◌, ℕ, List, [], ◌++◌, length, take, drop, slice_get, Some}
 use Rattle.byteorder.specs.Endian.{big_bytes}
 use Rattle.exh_prefix.specs.declared.version.Version.{Version}
 use Rattle.exh_prefix.specs.declared.version.Version.TheVariants.{First, Second}
@@ -25,7 +25,7 @@ pub record OpensAs (bytes : List ℕ) (opened : OpenedState) : Type 0 where
 
 -- the ward with its pages and its table now, and nothing of what came before
 abbrev pub begun_anew : WardState AnyKeyer → ℕ → WardState AnyKeyer
-begun_anew ward failures = record ward { base = map_of ward.pages; has_base = true; journal = []; start = ward.table; notices = []; failures = failures }
+begun_anew ward failures = record ward { base = map_of ward.pages; journal = []; start = ward.table; notices = []; failures = failures }
 
 -- the same settings, and each ward begun anew
 pub record IsReopened (old new : OpenedState) : Type 0 where

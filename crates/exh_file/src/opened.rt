@@ -1,6 +1,9 @@
 ghost use Rattle.std.specs.Prelude.{◌≡◌, ◌↔◌, ℕ, IfErr, IfOk, IsTrue};
 ghost use Rattle.exh_file.specs.Opened.{AreWardsOf, IsWardOf, OpenedState, in_file, settings_in};
+ghost use Rattle.exh_file.specs.Saved.{header_of};
 
+use crate::header::header_of;
+use exh_format::Header;
 use exh_keyer::AnyKeyer;
 use exh_settings::FileSettings;
 use exh_stores::Pages;
@@ -84,6 +87,14 @@ impl<P: Pages + Drop> Opened<P> {
         ensures { result ≡ self.now.keyer }
     {
         self.settings.keyer
+    }
+
+    /// The header of the page file that is written of the wards as they stand, which tells how many pages and entries
+    /// that has. It takes no memory.
+    pub fn header(&self) -> Header
+        ensures { result ≡ header_of self.now }
+    {
+        header_of(self.settings, &self.wards)
     }
 
     /// The wards, in the order of their numbers. It takes no memory.

@@ -30,10 +30,10 @@ module _ (old new : Option (List ℕ)) (failed : Bool) where
   EndsAs (Ok (Some value)) status = EndsValue value status
   EndsAs (Err fault) status = (PrintsLine old new failed (get_refusal_line fault) ⊎ PrintsLine old new failed memory_line) × (status ≡ Refused)
 
-  -- it is what the blocks have at the key
-  pub record EndsGet (known reads : Option (List ℕ)) (key : List ℕ) (status : Status) : Type 0 where
+  -- it is what the blocks, so many whole ones, have at the key
+  pub record EndsGet (known : Option (List ℕ)) (whole : ℕ) (reads : Option (List ℕ)) (key : List ℕ) (status : Status) : Type 0 where
     pub outcome : Result (Option (List ℕ)) DirectFault
     pub after : Option (List ℕ)
-    pub found : IfOk outcome (Finds known key reads after)
-    pub refused : IfErr outcome (Refuses known key reads after)
+    pub found : IfOk outcome (Finds known whole key reads after)
+    pub refused : IfErr outcome (Refuses known whole key reads after)
     pub printed : EndsAs outcome status

@@ -7,3 +7,4 @@ pub mod PairsAgain
 pub mod GetRun
 pub mod ChangeRun
 pub mod LoadRun
+pub mod SizeLimit

@@ -1,9 +1,10 @@
 //! The blocks of a file of the system, each read at its place.
 ghost use Rattle.std.specs.Prelude.{None};
 
-use crate::Reason;
+use crate::{Reason, with_reason};
 use exh_codec::BLOCK_LEN;
 use exh_direct::Blocks;
+use exh_path::open_above;
 use std::fs::File;
 use std::os::unix::fs::FileExt;
 use std::{fs, io};
@@ -12,20 +13,21 @@ use std::{fs, io};
 #[derive(Drop)]
 pub struct FileBlocks<'a> {
     file: File,
+    count: u64,
     reason: &'a Reason,
 }
 
 impl<'a> FileBlocks<'a> {
-    pub fn new(file: File, reason: &'a Reason) -> FileBlocks<'a> {
-        FileBlocks { file, reason }
-    }
-
-    // The same, and where it is an error that as the reason.
-    fn told<T>(&self, read: io::Result<T>) -> io::Result<T> {
-        if let Err(error) = &read {
-            self.reason.set(Some(*error));
-        }
-        read
+    /// Of a file, as many as it has now.
+    ///
+    /// An error: the system doesn't say how long it is.
+    pub fn new(file: File, reason: &'a Reason) -> io::Result<FileBlocks<'a>> {
+        let count = file.metadata()?.len() / BLOCK_LEN as u64;
+        Ok(FileBlocks {
+            file,
+            count,
+            reason,
+        })
     }
 }
 
@@ -35,14 +37,15 @@ impl Blocks for FileBlocks<'_> {
 
     ghost reads = { λ _. None };
 
-    fn count(&mut self) -> io::Result<u64> {
-        let about = self.told(self.file.metadata())?;
-        Ok(about.len() / BLOCK_LEN as u64)
+    ghost whole = { λ blocks. blocks.count };
+
+    fn count(&self) -> u64 {
+        self.count
     }
 
     fn read(&mut self, place: u32, block: &mut [u8; BLOCK_LEN]) -> io::Result<()> {
         let start = u64::from(place) * BLOCK_LEN as u64;
-        self.told(self.file.read_exact_at(block, start))
+        with_reason(self.file.read_exact_at(block, start), self.reason)
     }
 }
 
@@ -51,5 +54,5 @@ pub fn open_regular(rt: &HostRuntime, path: &str) -> io::Result<File> {
     if !fs::metadata(rt, path)?.is_file() {
         return Err(io::Error::new(io::ErrorKind::InvalidInput, "not a regular file"));
     }
-    File::open(rt, path)
+    open_above(rt, path)
 }

@@ -29,7 +29,7 @@ pub fn tell_key<B: Blocks + Drop, W: Write>(
     requires empty { pending output.old ≡ [] }
     ensures same_writer { SameWriter output.old output.new }
     ensures found { IfOk opened (λ blocks.
-        EndsGet (held W.contents output.old) (held W.contents output.new) (writer_failed output.new) (B.known blocks) (B.reads blocks) key.now result) }
+        EndsGet (held W.contents output.old) (held W.contents output.new) (writer_failed output.new) (B.known blocks) (B.whole blocks) (B.reads blocks) key.now result) }
     ensures unopened { IfErr opened (λ fault.
         EndsUnopened (held W.contents output.old) (held W.contents output.new) (writer_failed output.new) result) }
 {

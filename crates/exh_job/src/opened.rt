@@ -1,43 +1,104 @@
 //! The opening of the page file of a path, and what is said of it.
 
 use crate::open_run::open_file;
-use crate::said::{tell_reason, with_reason};
-use crate::saving::opened_seen;
+use crate::said::{Reason, tell_reason, with_reason};
+use crate::saving::{refuse_for_memory, refuse_save};
 use crate::status::Status;
 use crate::stores::FileWards;
 use crate::watch::reading_meter;
 use exh_notes::ReasonReader;
-use exh_path::Seen;
+use exh_path::{DiskFault, OpenedFile, SystemDisk, open_above};
 use exh_stream::{ClearingWriter, MeteredReader, Output};
 use std::cell::Cell;
-use std::fs::File;
 use std::io;
 
-/// The wards of the page file of a path, where one is named, and what that file is. A terminal is told how far the
-/// reading is. Where it isn't opened that is told, and the answer is the status with which the program ends.
+// How often a file is opened anew that another run replaced before it was locked.
+const TRIES: u32 = 100;
+
+/// The wards of a page file, and the file, which is held open.
+type Opening = (FileWards, OpenedFile);
+
+/// The wards of the page file of a path, where one is named, and the file, which is held open. A terminal is told how far
+/// the reading is. Where it isn't opened that is told, and the answer is the status with which the program ends.
 pub fn opened_at(
     rt: &HostRuntime,
     path: Option<&str>,
-) -> Result<(Option<FileWards>, Option<Seen>), Status> {
+) -> Result<(Option<FileWards>, Option<OpenedFile>), Status> {
     match path {
         Some(path) => {
             let (wards, seen) = open_at(rt, path)?;
-            Ok((Some(wards), seen))
+            Ok((Some(wards), Some(seen)))
         }
         None => Ok((None, None)),
     }
 }
 
 /// The same of a path that is named.
-pub fn open_at(rt: &HostRuntime, path: &str) -> Result<(FileWards, Option<Seen>), Status> {
+pub fn open_at(rt: &HostRuntime, path: &str) -> Result<Opening, Status> {
     let reason = Cell::new(None);
-    let opened = with_reason(File::open(rt, path), &reason);
-    let seen = opened_seen(rt, path, &opened)?;
-    let meter = reading_meter(rt, &opened);
-    let counted = opened.map(|file| MeteredReader::new(ReasonReader::new(file, &reason), &meter));
+    let seen = seen_at(rt, path, &reason)?;
+    read_opened(rt, path, seen, &reason)
+}
+
+/// The same of a file that is locked before it is read, so that no other run saves over it until this one is done. Where
+/// another run has the lock standard error says so.
+pub fn open_alone(rt: &HostRuntime, path: &str) -> Result<Opening, Status> {
+    for _ in 0..TRIES {
+        let reason = Cell::new(None);
+        let seen = seen_at(rt, path, &reason)?;
+        if is_alone(rt, path, &seen)? {
+            return read_opened(rt, path, seen, &reason);
+        }
+    }
+    Err(refuse_save(rt, path, DiskFault::Changed))
+}
+
+// Whether a file, if it is opened, is locked now, and still the one of its path.
+fn is_alone(rt: &HostRuntime, path: &str, seen: &io::Result<OpenedFile>) -> Result<bool, Status> {
+    match seen {
+        Ok(seen) => match seen.lock(rt.alloc(), &mut SystemDisk::new(rt)) {
+            Ok(is_alone) => Ok(is_alone),
+            Err(fault) => Err(refuse_save(rt, path, fault)),
+        },
+        Err(_) => Ok(true),
+    }
+}
+
+// Opens the file of a path, and asks what it is; or why it isn't opened, which becomes the reason.
+fn seen_at(
+    rt: &HostRuntime,
+    path: &str,
+    reason: &Reason,
+) -> Result<io::Result<OpenedFile>, Status> {
+    match with_reason(open_above(rt, path), reason) {
+        Ok(file) => match SystemDisk::new(rt).seen(path, file) {
+            Ok(seen) => Ok(Ok(seen)),
+            Err(_) => Err(refuse_for_memory(rt)),
+        },
+        Err(error) => Ok(Err(error)),
+    }
+}
+
+// Reads an opened file.
+fn read_opened(
+    rt: &HostRuntime,
+    path: &str,
+    seen: io::Result<OpenedFile>,
+    reason: &Reason,
+) -> Result<Opening, Status> {
+    let opened = match &seen {
+        Ok(seen) => Ok(seen.opened()),
+        Err(error) => Err(*error),
+    };
+    let meter = reading_meter(rt, opened.ok());
+    let counted = opened.map(|file| MeteredReader::new(ReasonReader::new(file, reason), &meter));
     let mut writer = ClearingWriter::new(io::writer(rt), &meter);
     let wards = open_file(rt.alloc(), counted, &mut Output::new(&mut writer));
     meter.clear();
-    tell_reason(rt, path, &reason);
-    wards.map(|wards| (wards, seen))
+    tell_reason(rt, path, reason);
+    match (wards, seen) {
+        (Ok(wards), Ok(seen)) => Ok((wards, seen)),
+        (Err(status), _) => Err(status),
+        (Ok(_), Err(_)) => Err(Status::Refused),
+    }
 }

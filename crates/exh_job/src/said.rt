@@ -1,5 +1,6 @@
 //! What the program says on standard error of a run.
 
+use exh_notes::Escaped;
 use std::cell::Cell;
 use std::io;
 
@@ -20,6 +21,14 @@ pub fn with_reason<T>(opened: io::Result<T>, reason: &Reason) -> io::Result<T> {
 /// Says why something wasn't read, where there is a reason.
 pub fn tell_reason(rt: &impl Eprint, what: &str, reason: &Reason) {
     if let Some(error) = reason.get() {
+        let what = Escaped(what);
         let _ = eprintln!(rt; "exhash: {what}: {error}");
+    }
+}
+
+/// Says that what a call left is saved at a path, but why its answer wasn't printed, where there is a reason.
+pub fn tell_unprinted(rt: &impl Eprint, path: &str, reason: &Reason) {
+    if let Some(error) = reason.get() {
+        let _ = eprintln!(rt; "exhash: saved to {path:?}, but its answer isn't printed: {error}");
     }
 }

@@ -2,34 +2,16 @@
 
 use crate::job_path::JobPath;
 use crate::last_line::print_out_of_memory;
+use crate::size_limit::above_limit;
 use crate::status::Status;
 use crate::stores::FileWards;
 use crate::watch::saving_meter;
-use exh_path::{DiskFault, Seen, SystemDisk, look_at, save_at};
+use exh_path::{DiskFault, OpenedFile, SystemDisk, look_at, save_at};
 use exh_stream::Output;
-use std::fs::File;
 use std::io;
-use std::io::ErrorKind;
-
-/// What the file is that was opened at a path, where the system says so. Where memory ran out for that, the last line is
-/// `refused 10`, and the answer is the status with which the program ends.
-pub fn opened_seen(
-    rt: &HostRuntime,
-    path: &str,
-    opened: &io::Result<File>,
-) -> Result<Option<Seen>, Status> {
-    let Ok(file) = opened else {
-        return Ok(None);
-    };
-    match SystemDisk::new(rt).seen(path, file) {
-        Ok(seen) => Ok(Some(seen)),
-        Err(error) if error.kind() == ErrorKind::OutOfMemory => Err(refuse_for_memory(rt)),
-        Err(_) => Ok(None),
-    }
-}
 
 /// Says on standard error why a path can't be saved to, where that can be told before the run.
-pub fn warn(rt: &HostRuntime, path: Option<&str>, seen: Option<&Seen>) {
+pub fn warn(rt: &HostRuntime, path: Option<&str>, seen: Option<&OpenedFile>) {
     let Some(path) = path else {
         return;
     };
@@ -46,10 +28,14 @@ pub fn warn(rt: &HostRuntime, path: Option<&str>, seen: Option<&Seen>) {
 pub fn save_at_path(
     rt: &HostRuntime,
     save: JobPath<'_>,
-    seen: Option<&Seen>,
+    seen: Option<&OpenedFile>,
     wards: FileWards,
 ) -> Status {
     let path = save.path();
+    if let Some(above) = above_limit(rt, path, &wards) {
+        let _ = eprintln!(rt; "exhash: not saved to {path:?}: {above}");
+        return Status::Refused;
+    }
     let meter = saving_meter(rt);
     let mut disk = SystemDisk::new(rt);
     let (saved, _wards) = save_at(rt.alloc(), &mut disk, path, seen, wards, &meter);
@@ -61,15 +47,23 @@ pub fn save_at_path(
             }
             Status::Done
         }
-        Err(DiskFault::Memory) => refuse_for_memory(rt),
-        Err(fault) => {
+        Err(fault) => refuse_save(rt, path, fault),
+    }
+}
+
+/// Says why a path isn't saved to, and gives the status with which the program ends.
+pub(crate) fn refuse_save(rt: &HostRuntime, path: &str, fault: DiskFault) -> Status {
+    match fault {
+        DiskFault::Memory => refuse_for_memory(rt),
+        fault => {
             let _ = eprintln!(rt; "exhash: not saved to {path:?}: {fault}");
             Status::Refused
         }
     }
 }
 
-fn refuse_for_memory(rt: &HostRuntime) -> Status {
+/// Says that memory ran out, and gives the status with which the program ends.
+pub(crate) fn refuse_for_memory(rt: &HostRuntime) -> Status {
     let _ = print_out_of_memory(&mut Output::new(&mut io::writer(rt)));
     Status::Refused
 }

@@ -5,21 +5,23 @@ use crate::change_run::{change_over, tell_saved};
 use crate::file_blocks::{FileBlocks, open_regular};
 use crate::file_run::{Topic, tell_file};
 use crate::get_run::tell_key;
-use crate::{Ending, FileWards, JobPath, Status, open_at, reading_meter, tell_reason, with_reason};
+use crate::said::tell_unprinted;
+use crate::{
+    Ending, FileWards, JobPath, Status, open_alone, reading_meter, tell_reason, with_reason,
+};
 use exh_calls::Call;
-use exh_notes::ReasonReader;
+use exh_notes::{ReasonReader, ReasonWriter};
 use exh_page::Key;
-use exh_path::Seen;
+use exh_path::{OpenedFile, open_above};
 use exh_stream::{ClearingWriter, MeteredReader, Output};
 use std::cell::Cell;
-use std::fs::File;
 use std::io;
 
 /// Tells of the file of a path, and on a terminal how far that is.
 pub fn tell_path(rt: &HostRuntime, topic: Topic, path: &str) -> Status {
     let reason = Cell::new(None);
-    let opened = with_reason(File::open(rt, path), &reason);
-    let meter = reading_meter(rt, &opened);
+    let opened = with_reason(open_above(rt, path), &reason);
+    let meter = reading_meter(rt, opened.as_ref().ok());
     let counted = opened.map(|file| MeteredReader::new(ReasonReader::new(file, &reason), &meter));
     let mut writer = ClearingWriter::new(io::writer(rt), &meter);
     let status = tell_file(rt.alloc(), topic, counted, &mut Output::new(&mut writer));
@@ -31,8 +33,8 @@ pub fn tell_path(rt: &HostRuntime, topic: Topic, path: &str) -> Status {
 /// Prints the value of a key of the file of a path.
 pub fn get(rt: &HostRuntime, path: &str, key: &Key) -> Status {
     let reason = Cell::new(None);
-    let opened = with_reason(open_regular(rt, path), &reason);
-    let blocks = opened.map(|file| FileBlocks::new(file, &reason));
+    let opened = open_regular(rt, path).and_then(|file| FileBlocks::new(file, &reason));
+    let blocks = with_reason(opened, &reason);
     let status = tell_key(
         rt.alloc(),
         blocks,
@@ -43,18 +45,18 @@ pub fn get(rt: &HostRuntime, path: &str, key: &Key) -> Status {
     status
 }
 
-/// Answers a call by the page file of a path, and says what that file was. Where the call is done what it leaves is to be
-/// saved at the job's path, and then the answer told.
+/// Answers a call by the page file of a path, which is locked before it is read and held with the answer. Where the call is
+/// done what it leaves is to be saved at the job's path, and then the answer told.
 pub fn change<'w>(
     rt: &HostRuntime,
     path: &str,
     call: &Call,
     save: Option<JobPath<'w>>,
-) -> (Ending<'w>, Option<Seen>)
+) -> (Ending<'w>, Option<OpenedFile>)
     ensures { SavesAt save.entry result.0 }
 {
-    match open_at(rt, path) {
-        Ok((wards, seen)) => (answer_over(rt, wards, call, save), seen),
+    match open_alone(rt, path) {
+        Ok((wards, seen)) => (answer_over(rt, wards, call, save), Some(seen)),
         Err(status) => (Ending::Over(status), None),
     }
 }
@@ -72,7 +74,12 @@ fn answer_over<'w>(
     change_over(rt.alloc(), wards, call, save, &mut Output::new(&mut writer))
 }
 
-/// Tells an answer's line, where what the call left is saved, as this status of the save says.
-pub fn tell_change(rt: &HostRuntime, saved: Status, line: &[u8]) -> Status {
-    tell_saved(saved, line, &mut Output::new(&mut io::writer(rt)))
+/// Tells an answer's line, where what the call left is saved at a path, as this status of the save says. Where the line
+/// isn't printed standard error says that the file is saved, and why.
+pub fn tell_change(rt: &HostRuntime, path: &str, saved: Status, line: &[u8]) -> Status {
+    let reason = Cell::new(None);
+    let mut writer = ReasonWriter::new(io::writer(rt), &reason);
+    let status = tell_saved(saved, line, &mut Output::new(&mut writer));
+    tell_unprinted(rt, path, &reason);
+    status
 }

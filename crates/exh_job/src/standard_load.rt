@@ -7,20 +7,20 @@ use crate::numbered_writer::NumberedWriter;
 use crate::{Ending, FileWards, INPUT, JobPath, opened_at, tell_reason, warn};
 use exh_command::LoadWay;
 use exh_notes::{Expect, Notes, ReasonReader};
-use exh_path::Seen;
+use exh_path::OpenedFile;
 use exh_stream::{ClearingWriter, MeteredReader};
 use exh_text::SCRIPT_LIMIT;
 use std::cell::Cell;
 use std::io;
 
 /// Loads the pairs on standard input, of which a file comes that is to be saved at a job's path: a new one, or the one
-/// that is there, and what that file is. A terminal is told how many were read.
+/// that is there, which is held open. A terminal is told how many were read.
 pub fn load<'w>(
     rt: &HostRuntime,
     path: &str,
     way: LoadWay,
     save: Option<JobPath<'w>>,
-) -> (Ending<'w>, Option<Seen>)
+) -> (Ending<'w>, Option<OpenedFile>)
     ensures { SavesAt save.entry result.0 }
 {
     let from = match way {

@@ -1,9 +1,9 @@
 //! How far reading and saving are, as a terminal is told.
 
 use exh_stream::{BLOCK_LEN, Console, Meter, Unit, Work};
+use std::env;
 use std::fs::File;
 use std::io::{IsTerminal, Stderr};
-use std::{env, io};
 
 /// The terminal that is told how far work is: standard error, where it is one that knows how a line is taken away.
 pub fn console(rt: &HostRuntime) -> Option<Console<'_, HostRuntime, Stderr>> {
@@ -17,7 +17,7 @@ pub fn console(rt: &HostRuntime) -> Option<Console<'_, HostRuntime, Stderr>> {
 /// Of the reading of an opened file, which begins now: told where standard error is a terminal.
 pub fn reading_meter<'r>(
     rt: &'r HostRuntime,
-    opened: &io::Result<File>,
+    opened: Option<&File>,
 ) -> Meter<Console<'r, HostRuntime, Stderr>> {
     let work = Work {
         unit: Unit::BlocksRead,
@@ -36,9 +36,8 @@ pub fn saving_meter(rt: &HostRuntime) -> Meter<Console<'_, HostRuntime, Stderr>>
 }
 
 // How many blocks a regular file has, a last one that is cut off among them.
-fn blocks_of(opened: &io::Result<File>) -> Option<u64> {
-    let file = opened.as_ref().ok()?;
-    let about = file.metadata().ok()?;
+fn blocks_of(opened: Option<&File>) -> Option<u64> {
+    let about = opened?.metadata().ok()?;
     if about.is_file() {
         Some(about.len().div_ceil(BLOCK_LEN))
     } else {

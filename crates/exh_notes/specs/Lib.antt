@@ -5,3 +5,4 @@ pub mod WrongWord
 pub mod Texts
 pub mod Tally
 pub mod ReasonReader
+pub mod ReasonWriter

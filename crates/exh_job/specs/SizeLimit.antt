@@ -1,0 +1,28 @@
+-- The limit on the size of a file that a text of the system's tells, and how long a page file is.
+use Rattle.std.specs.Prelude.{ℕ, ◌+◌, List, [], ◌∷◌, codes, drop, length, nat_eq, cond, Option, None}
+use Rattle.std.specs.List.{starts_with, sum}
+use Rattle.exh_text.specs.TextLines.{is_empty, newline, parts_at, space}
+use Rattle.exh_text.specs.Numbers.{index_spelled}
+use Rattle.exh_format.specs.declared.header.Header.{Header}
+use Rattle.exh_format.specs.PageFile.{table_blocks}
+
+-- the first word that isn't empty, or an empty one
+abbrev pub first_full : List (List ℕ) → List ℕ
+first_full [] = []
+first_full (word ∷ words) = cond (is_empty word) (first_full words) word
+
+abbrev pub first_word : List ℕ → List ℕ
+first_word line = first_full (parts_at space line)
+
+-- the number that stands first behind these words, in the first of these lines that begins with them
+abbrev pub number_behind : List ℕ → List (List ℕ) → Option ℕ
+number_behind words [] = None
+number_behind words (line ∷ lines) = cond (starts_with nat_eq line words) (index_spelled (first_word (drop (length words) line))) (number_behind words lines)
+
+-- of the limits on a process, a line each, the soft one on the size of a file
+abbrev pub limit_told : List ℕ → Option ℕ
+limit_told text = number_behind (codes "Max file size ") (parts_at newline text)
+
+-- the blocks of a page file of this header: it, the pages, and those of the table
+abbrev pub blocks_told : Header → ℕ
+blocks_told header = 1 + (sum header.page_counts + table_blocks header.entry_count)
