@@ -1,10 +1,14 @@
-//! Journals whose replies were worked out by hand.
+//! Journals whose replies were worked out by hand, and those of wards that a load answered.
 
 use exh_calls::{Base, Journal, PackedPairs, Reply};
+use exh_file::Opened;
 use exh_fixtures::{Difference, Said, key, value};
+use exh_frames::FileStore;
 use exh_keyer::PlainKeyer;
 use exh_report::audit;
-use std::alloc::Global;
+use exh_script::load;
+use std::alloc::{AllocError, Global};
+use std::test::Fail;
 
 // A history of a file of cap 2 and keyer plain, in which the key `z` has the value `z` before. The keys of zeros have one
 // pseudokey.
@@ -75,4 +79,44 @@ fn are_told_apart(alloc: Global) -> Result<bool, Difference> {
 #[test]
 fn histories_and_others(rt: HostRuntime) {
     assert!(rt; matches!(are_told_apart(rt.alloc()), Ok(true)));
+}
+
+// 800 pairs of different keys, which the hash spreads over two wards.
+fn many_pairs(alloc: Global) -> Result<Vec<u8>, AllocError> {
+    let mut text = Vec::new(alloc);
+    text.extend_from_slice(b"file cap=16 wards=1 copies=1 keyer=sha\n")?;
+    for number in 1_000..1_800_u32 {
+        let line = format!(in alloc; "k{number} v{number}\n")?;
+        text.extend_from_slice(line.as_bytes())?;
+    }
+    Ok(text)
+}
+
+// How many pairs the bases of both wards have, and how many entries their journals; `None` where a journal is no history.
+fn audited_wards(
+    alloc: Global,
+    file: &Opened<FileStore>,
+) -> Result<Option<(usize, usize)>, AllocError> {
+    let keyer = file.settings().keyer;
+    let (mut pairs, mut entries) = (0usize, 0usize);
+    for ward in file.wards() {
+        if !audit(alloc, file.cap(), &keyer, ward.base(), ward.journal())? {
+            return Ok(None);
+        }
+        pairs = pairs.saturating_add(ward.base().pairs().len());
+        entries = entries.saturating_add(ward.journal().len());
+    }
+    Ok(Some((pairs, entries)))
+}
+
+// The history of each ward begins anew with its 256th pair, and not again.
+#[test]
+fn loaded_wards(rt: HostRuntime) -> Result<(), Fail> {
+    let text = many_pairs(rt.alloc())?;
+    let file = load(rt.alloc(), &mut text.as_slice(), &mut Vec::new(rt.alloc()))?;
+    assert!(rt; matches!(file, Some(_)));
+    if let Some(file) = file {
+        assert!(rt; audited_wards(rt.alloc(), &file)? == Some((512, 288)));
+    }
+    Ok(())
 }

@@ -17,6 +17,8 @@ mod joins;
 #[cfg(test)]
 mod keys;
 #[cfg(test)]
+mod leaves;
+#[cfg(test)]
 mod live_doors;
 #[cfg(test)]
 mod notices;
