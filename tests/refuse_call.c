@@ -1,14 +1,14 @@
-/* Refuses a call of the system, kills the program there or lets it wait: tests/run, tests/failing_calls and
- * tests/meeting_saves preload it.
+/* Refuses a call of the system, kills the program there or lets it wait: tests/run, tests/failing_calls,
+ * tests/meeting_saves and tests/failing_meetings preload it.
  *
- * The call that REFUSED_CALL names, `open`, `read`, `pread`, `write`, `fsync`, `rename`, `ftruncate`, `fchmod`,
- * `fchown`, `flock`, `unlink`, `statx` or `realpath`, or each of these by `any`, fails with the error number
- * REFUSED_ERROR, or where that is 0 the program is killed in its place: the call number REFUSED_NTH, counted from 1
- * over all threads, or each where there is no such number. Where there is REFUSED_WAITS, it doesn't fail, and is made
- * only once that descriptor is at its end. Where there is REFUSED_ABOUT, only calls about a file with this in its path
- * count. Each of these calls, of whatever name, is told to the descriptor REFUSED_TELLS, if there is one, in a line:
- * its name; how the file is opened, 0 to read, 1 to write, 2 for both; and its path, or `&N` of the descriptors 0 to 2.
- * One that is refused or waits is told again, by the name `refused`. */
+ * The call that REFUSED_CALL names, `open`, `read`, `pread`, `write`, `fsync`, `rename`, `link`, `ftruncate`, `fchmod`,
+ * `fchown`, `flock`, `unlink`, `dup`, `statx`, `realpath` or `readlink`, or each of these by `any`, fails with the error
+ * number REFUSED_ERROR, or where that is 0 the program is killed in its place: the call number REFUSED_NTH, counted
+ * from 1 over all threads, or each where there is no such number. The call number REFUSED_AT is made, or fails, only
+ * once the descriptor REFUSED_WAITS is at its end. Where there is REFUSED_ABOUT, only calls about a file with this in
+ * its path count. Each of these calls, of whatever name, is told to the descriptor REFUSED_TELLS, if there is one, in a
+ * line: its name; how the file is opened, 0 to read, 1 to write, 2 for both; and its path, or `&N` of the descriptors 0
+ * to 2. One that waits is told again, by the name `waits`, and one that is refused by the name `refused`. */
 #define _GNU_SOURCE
 #include <dlfcn.h>
 #include <errno.h>
@@ -41,19 +41,20 @@ static void wait_for_the_end(int descriptor) {
 
 static int is_refused(const char *call, int access, const char *path) {
     const char *about = getenv("REFUSED_ABOUT"), *nth = getenv("REFUSED_NTH"), *error = getenv("REFUSED_ERROR");
-    const char *refused = getenv("REFUSED_CALL"), *waits = getenv("REFUSED_WAITS");
+    const char *refused = getenv("REFUSED_CALL"), *at = getenv("REFUSED_AT"), *waits = getenv("REFUSED_WAITS");
     if (refused == NULL || error == NULL || (about != NULL && strstr(path, about) == NULL))
         return 0;
     tell(call, access, path);
     if (strcmp(refused, call) != 0 && strcmp(refused, "any") != 0)
         return 0;
-    if (nth != NULL && atomic_fetch_add(&calls, 1) + 1 != strtoul(nth, NULL, 10))
+    unsigned long number = atomic_fetch_add(&calls, 1) + 1;
+    if (at != NULL && waits != NULL && number == strtoul(at, NULL, 10)) {
+        tell("waits", access, path);
+        wait_for_the_end(atoi(waits));
+    }
+    if (nth != NULL && number != strtoul(nth, NULL, 10))
         return 0;
     tell("refused", access, path);
-    if (waits != NULL) {
-        wait_for_the_end(atoi(waits));
-        return 0;
-    }
     errno = atoi(error);
     if (errno == 0)
         kill(getpid(), SIGKILL);
@@ -66,9 +67,9 @@ static int is_refused_of(const char *call, int descriptor) {
     if (descriptor <= 2)
         return is_refused(call, 0, link);
     int before = errno;
-    if (readlink(link, path, sizeof path - 1) < 0)
+    if (syscall(SYS_readlinkat, AT_FDCWD, link, path, sizeof path - 1) < 0)
         abort();
-    int access = fcntl(descriptor, F_GETFL) & O_ACCMODE;
+    int access = (int)syscall(SYS_fcntl, descriptor, F_GETFL) & O_ACCMODE;
     errno = before;
     return is_refused(call, access, path);
 }
@@ -125,6 +126,10 @@ int rename(const char *from, const char *to) {
     return is_refused("rename", 1, from) ? -1 : REAL("rename", int, const char *, const char *)(from, to);
 }
 
+int link(const char *from, const char *to) {
+    return is_refused("link", 1, from) ? -1 : REAL("link", int, const char *, const char *)(from, to);
+}
+
 int unlink(const char *path) {
     return is_refused("unlink", 1, path) ? -1 : REAL("unlink", int, const char *)(path);
 }
@@ -138,4 +143,21 @@ int statx(int folder, const char *path, int flags, unsigned mask, struct statx *
 
 char *realpath(const char *path, char *whole) {
     return is_refused("realpath", 0, path) ? NULL : REAL("realpath", char *, const char *, char *)(path, whole);
+}
+
+ssize_t readlink(const char *path, char *target, size_t size) {
+    return is_refused("readlink", 0, path)
+               ? -1
+               : REAL("readlink", ssize_t, const char *, char *, size_t)(path, target, size);
+}
+
+/* Of the calls of this name only those that give a file another descriptor count. */
+int fcntl(int descriptor, int command, ...) {
+    va_list rest;
+    va_start(rest, command);
+    long value = va_arg(rest, long);
+    va_end(rest);
+    if (command == F_DUPFD_CLOEXEC && is_refused_of("dup", descriptor))
+        return -1;
+    return REAL("fcntl", int, int, int, ...)(descriptor, command, value);
 }

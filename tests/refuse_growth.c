@@ -3,9 +3,10 @@
  *
  * Counted from the start of main over all threads, the call number REFUSED_GROWTH of malloc, calloc, realloc,
  * aligned_alloc and posix_memalign is answered as where no memory is left, or where REFUSED_KILLS is set the program is
- * killed in its place. Before that a byte is written to the descriptor REFUSED_TELLS. Where REFUSED_COUNTS is set, the
- * count of such calls is written there in digits once main has returned, or as a program that may start threads ends
- * itself. */
+ * killed in its place. Before that a byte is written to the descriptor REFUSED_TELLS. Where REFUSED_ASKED is set, the
+ * program itself asks: a growth of 2^62 bytes and n more, which no memory has, is refused, and so is the n-th one after
+ * it, of which a byte is written too. Where REFUSED_COUNTS is set, the count of such calls is written there in digits
+ * once main has returned, or as a program that may start threads ends itself. */
 #define _GNU_SOURCE
 #include <dlfcn.h>
 #include <errno.h>
@@ -28,8 +29,27 @@ static atomic_ulong calls;
 /* 0 before main. */
 static unsigned long refused;
 static int tells = -1;
+static int is_asked_for;
+/* How many growths there are up to the one that the program asked to have refused; 0 for none. */
+static atomic_ulong asked;
 
-static int is_refused(void) {
+#define ASKS ((size_t)1 << 62)
+
+static int is_refused_as_asked(size_t size) {
+    if (size >= ASKS) {
+        atomic_store(&asked, size - ASKS);
+        return 1;
+    }
+    if (atomic_load(&asked) == 0 || atomic_fetch_sub(&asked, 1) != 1)
+        return 0;
+    if (write(tells, "r", 1) != 1)
+        abort();
+    return 1;
+}
+
+static int is_refused(size_t size) {
+    if (is_asked_for)
+        return is_refused_as_asked(size);
     if (refused == 0 || atomic_fetch_add(&calls, 1) + 1 != refused)
         return 0;
     if (write(tells, "r", 1) != 1)
@@ -40,7 +60,7 @@ static int is_refused(void) {
 }
 
 void *malloc(size_t size) {
-    if (is_refused()) {
+    if (is_refused(size)) {
         errno = ENOMEM;
         return NULL;
     }
@@ -48,7 +68,7 @@ void *malloc(size_t size) {
 }
 
 void *calloc(size_t count, size_t size) {
-    if (is_refused()) {
+    if (is_refused(size)) {
         errno = ENOMEM;
         return NULL;
     }
@@ -56,7 +76,7 @@ void *calloc(size_t count, size_t size) {
 }
 
 void *realloc(void *block, size_t size) {
-    if (is_refused()) {
+    if (is_refused(size)) {
         errno = ENOMEM;
         return NULL;
     }
@@ -64,7 +84,7 @@ void *realloc(void *block, size_t size) {
 }
 
 void *aligned_alloc(size_t alignment, size_t size) {
-    if (is_refused()) {
+    if (is_refused(size)) {
         errno = ENOMEM;
         return NULL;
     }
@@ -72,7 +92,7 @@ void *aligned_alloc(size_t alignment, size_t size) {
 }
 
 int posix_memalign(void **block, size_t alignment, size_t size) {
-    if (is_refused())
+    if (is_refused(size))
         return ENOMEM;
     *block = __libc_memalign(alignment, size);
     return *block == NULL ? ENOMEM : 0;
@@ -90,6 +110,7 @@ static int counted_main(int count, char **words, char **environment) {
         abort();
     tells = atoi(descriptor);
     refused = strtoul(number, NULL, 10);
+    is_asked_for = getenv("REFUSED_ASKED") != NULL;
     int status = its_main(count, words, environment);
     tell_count();
     return status;

@@ -29,4 +29,10 @@ The others make scripts by chance, and run the program over them.
     counts         what must have come up
     wrong_answers  a program that gives a wrong answer, for `check`
     check          sees that wrong answers are found, and that the cases of tests/ are read as they say
+
+These are for the parts about savers, tests/meeting_saves and its like.
+
+    savers         runs that save at a path, and what others do there
+    bench          a folder where they run, and may wait at a call of the system
+    rooms          the kinds of such a folder
 """

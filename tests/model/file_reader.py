@@ -190,7 +190,9 @@ class Reader:
         self.place = sum(header.counts)
         told = frozenset((prefix, entry) for of, prefix, entry in self.tables(header.entries) if of == ward)
         _, number = walk(told, header.ward_bits, pseudokey)
-        for _ in range(count):
+        # Of a ward that tells more pages than the file has, the first that isn't there ends it.
+        there = max(len(self.content) // BLOCK - first, 0)
+        for _ in range(min(count, there + 1)):
             if number is None or number >= count:
                 break
             self.place = first + number - 1

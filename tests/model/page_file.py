@@ -111,9 +111,10 @@ def pairs_text(file, **given):
 
 
 class Load:
-    """A text of pairs as far as it was read."""
+    """A text of pairs as far as it was read, into a file that is opened, or a new one."""
 
-    def __init__(self):
+    def __init__(self, opened=None):
+        self.opened, self.before = opened, len(opened.map) if opened else 0
         self.file = None
         self.is_refused = False
 
@@ -123,13 +124,20 @@ class Load:
             return []
         try:
             if self.file is None:
-                settings = settings_of(line)
-                self.file = File.empty(settings.cap, settings.ward_bits, settings.keyer)
+                self.file = self.begun(settings_of(line))
                 return []
             return self.pair(line)
-        except WrongLine as error:
+        except (WrongLine, Refused) as error:
             self.is_refused = self.file is None
             return [f"refused {error.number}"]
+
+    def begun(self, settings):
+        """The file to which pairs come."""
+        if self.opened is None:
+            return File.empty(settings.cap, settings.ward_bits, settings.keyer)
+        if settings[:2] + settings[3:4] != (self.opened.cap, self.opened.ward_bits, self.opened.keyer):
+            raise Refused(63)
+        return self.opened
 
     def pair(self, line):
         """Takes a line of a pair."""
@@ -145,7 +153,7 @@ class Load:
     def end(self):
         """What is printed at the end."""
         if self.file is not None:
-            return [f"loaded {len(self.file.map)}"]
+            return [f"loaded {len(self.file.map) - self.before}"]
         lines = [] if self.is_refused else ["refused 60"]
         self.is_refused = True
         return lines
@@ -167,10 +175,10 @@ def put(file, call):
         file.split(ward.number, number)
 
 
-def load_of(content):
-    """The lines that `load` prints of a text, and the load as it ended."""
-    load = Load()
-    if len(content) > SCRIPT_LIMIT:
+def load_of(content, opened=None):
+    """The lines that `load` prints of a text, or `load --into` over a file that is opened, and the load as it ended."""
+    load = Load(opened)
+    if opened is None and len(content) > SCRIPT_LIMIT:
         load.is_refused = True
         return ["refused 62"], load
     lines = [told for line in content.split(b"\n") for told in load.line(line)]

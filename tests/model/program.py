@@ -8,8 +8,9 @@ from .grammar import printed
 from .page_file import MAGIC, bytes_of_file, check_text, dump_text, load_of, pairs_text, put
 from .script import text_of
 
-# What stands behind a place's name in that of the file beside it.
+# What stands behind a place's name in that of the file beside it, and for where that is another's, in those of others.
 BESIDE = ".exhash-saving"
+BESIDES = (BESIDE, *(f"{BESIDE}-{number}" for number in (2, 3, 4)))
 # The replies of calls that are done.
 DONE = ("new", "was", "swapped")
 
@@ -47,6 +48,9 @@ def outcome_of_right(words, given, files):
         case ["load", name]:
             lines, load = load_of(given)
             return ended(lines, load, files, name)
+        case ["load", "--into", name]:
+            lines, load = load_of(given, file_of(content_at(name, files)))
+            return ended(lines, load, files, name)
         case [("put" | "del" | "swap") as command, *spelled]:
             return changed(*calling_of(command, spelled), files)
         case ["serve", *options]:
@@ -72,7 +76,10 @@ def changed(name, call, files):
     file = file_of(content_at(name, files))
     reply = put(file, call)
     lines = [" ".join([reply.word] + ([] if reply.value is None else [printed(reply.value)]))]
-    return saved(lines, bytes_of_file(file.opened()), files, name) if reply.word in DONE else Outcome(lines, 3, files)
+    if reply.word not in DONE:
+        return Outcome(lines, 3, files)
+    outcome = saved(lines, bytes_of_file(file.opened()), files, name)
+    return outcome._replace(lines=[]) if outcome.status else outcome
 
 
 def served(options, given, files):
@@ -90,9 +97,11 @@ def ended(lines, run, files, name):
 
 
 def saved(lines, content, files, name):
-    """A save, which replaces an empty file or one that begins as a page file, and takes over what a killed one left."""
+    """A save, which replaces an empty file or one that begins as a page file; only such a one beside it is taken over."""
     old = files.get(name, b"")
-    if old and not old.startswith(MAGIC):
+    # What a killed save left may end within the bytes that it begins with.
+    names = [name + it for it in BESIDES if MAGIC.startswith(files.get(name + it, b"")[: len(MAGIC)])]
+    if not names or old and not old.startswith(MAGIC):
         return Outcome(lines, 1, files)
-    others = {it: files[it] for it in files if it != name + BESIDE}
+    others = {it: content for it, content in files.items() if it != names[0]}
     return Outcome(lines, 0, others | {name: content})
