@@ -192,7 +192,7 @@ impl Pointers {
         let many = self.pointers.len() << more;
         let mut pointers = Vec::with_capacity(*self.pointers.allocator(), many)?;
         for at in 0..many {
-            pointers.push(self.pointers[at >> more])?;
+            pointers.push_reserved(self.pointers[at >> more]);
         }
         self.pointers = pointers;
         self.depth = depth;

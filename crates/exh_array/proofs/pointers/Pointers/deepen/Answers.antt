@@ -7,15 +7,17 @@ use Rattle.exh_array.proofs.Deeper.{AreRepeated, repeated_none, repeated_more, r
 use Rattle.exh_array.proofs.pointers.Pointers.deepen.Goals as goal
 
 pub loop-at-init : goal.loop-at-init
-loop-at-init c = subst (AreRepeated _ 0 c.self.inside.pointers.items) (sym c.in_ok-pointers.ensures.items) (repeated_none _ c.self.inside.pointers.items)
+loop-at-init c = (subst (AreRepeated _ 0 c.self.inside.pointers.items) (sym c.in_ok-pointers.ensures.items) (repeated_none _ c.self.inside.pointers.items), omega (arith, c.in_ok-pointers.ensures.capacity))
 
 pub loop-at-preserved : goal.loop-at-preserved
 loop-at-preserved c =
     let times = 2 ^ (c.args.depth - c.self.inside.depth) in
     let next : slice_get c.self.inside.pointers.items (c.loop-at.at / times) ≡ Some c.index.result.now =
-    slice_get_read c.self.inside.pointers.items c.len.result (c.loop-at.at / times) c.index.result.now (omega arith) (repeated_within c.len.result times c.loop-at.at (pow_pos (c.args.depth - c.self.inside.depth)) c.loop-at-test.true) c.index.ensures in
-    subst (AreRepeated times (c.loop-at.at + 1) c.self.inside.pointers.items) (sym c.in_ok-push.ensures.items)
-    (repeated_more times c.loop-at.at c.self.inside.pointers.items c.loop-at.pointers.items c.index.result.now c.loop-at.invariant next)
+    slice_get_read c.self.inside.pointers.items c.len.result (c.loop-at.at / times) c.index.result.now (omega arith) (repeated_within c.len.result times c.loop-at.at (pow_pos (c.args.depth - c.self.inside.depth)) c.loop-at-test.true) c.index.ensures in (
+      subst (AreRepeated times (c.loop-at.at + 1) c.self.inside.pointers.items) (sym c.push_reserved.ensures.items)
+          (repeated_more times c.loop-at.at c.self.inside.pointers.items c.loop-at.pointers.items c.index.result.now c.loop-at.invariant.0 next),
+      omega (arith, c.loop-at.invariant.1, c.push_reserved.ensures.capacity),
+    )
 
 before : goal.After-self-2-1 → PointerArray
 before c = record { ward_bits = c.self.inside.ward_bits; depth = c.self.inside.depth; pointers = c.self.inside.pointers.items }
@@ -28,7 +30,7 @@ all_made : (c : goal.After-self-2-1) → AreRepeated (2 ^ (c.args.depth - c.self
 all_made c =
     let many : c.loop-at.at ≡ 2 ^ c.args.depth =
     omega (arith, shifted c.self.inside.depth (c.args.depth - c.self.inside.depth) c.args.depth c.len.result (deeper c) c.requires (omega arith), c.loop-at-test.false, c.loop-at.auto) in
-    subst (λ n. AreRepeated (2 ^ (c.args.depth - c.self.inside.depth)) n c.self.inside.pointers.items c.loop-at.pointers.items) many c.loop-at.invariant
+    subst (λ n. AreRepeated (2 ^ (c.args.depth - c.self.inside.depth)) n c.self.inside.pointers.items c.loop-at.pointers.items) many c.loop-at.invariant.0
 
 pub invariant_of-self : goal.invariant_of-self
 unfolding before
