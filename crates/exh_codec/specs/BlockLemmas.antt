@@ -79,3 +79,9 @@ sealed_from block content is is_sealed = sym (take-append-drop 4064 block) ∙ a
 
 pub length-sealed : (block content : List ℕ) → length content ≡ 4064 → block ≡ sealed content → length block ≡ 4096
 length-sealed block content len is = ap length is ∙ omega (arith, length-append content (sha256 content), length-sha256 content, len)
+
+-- the bytes after the content are its digest
+pub digest_of_sealed : (block content : List ℕ) → length block ≡ 4096 → block ≡ sealed content → drop 4064 block ≡ sha256 content
+digest_of_sealed block content len is =
+    let long : length content ≡ 4064 = omega (arith, len, ap length is, length-append content (sha256 content), length-sha256 content) in
+    sealed_is_sealed block content long is ∙ ap sha256 (sealed_content block content long is)

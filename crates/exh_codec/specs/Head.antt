@@ -4,6 +4,8 @@ use Rattle.byteorder.specs.Endian.{big_bytes, big_number}
 use Rattle.exh_prefix.specs.Prefix.{low_of}
 use Rattle.exh_page.specs.declared.page.Page.{Page}
 use Rattle.exh_page.specs.declared.page.Page.TheVariants as pages
+use Rattle.exh_page.specs.declared.page_head.PageHead.{PageHead}
+use Rattle.exh_page.specs.declared.page_head.PageHead.TheVariants as heads
 use Rattle.exh_codec.specs.declared.head.Head.{Head}
 use Rattle.exh_codec.specs.declared.kind.Kind.{Kind}
 use Rattle.exh_codec.specs.declared.kind.Kind.TheVariants.{Live, Forward}
@@ -23,6 +25,11 @@ abbrev pub head_of : Page → Head
 head_of (pages.Live prefix right records) =
     record { kind = Live; prefix_len = length prefix; count = length records; link = link_number right; low = low_of prefix }
 head_of (pages.Forward low target) = record { kind = Forward; prefix_len = 0; count = 0; link = target; low = low }
+
+-- what they say of a page that has this head
+abbrev pub head_with : PageHead → Head
+head_with (heads.Live prefix right count) = record { kind = Live; prefix_len = length prefix; count = count; link = link_number right; low = low_of prefix }
+head_with (heads.Forward low target) = record { kind = Forward; prefix_len = 0; count = 0; link = target; low = low }
 
 -- its bytes, in every version: kind, length of the prefix, number of records, a zero, four of the link, eight of the low bound. Of these eight
 -- the version's first ones say it, and the others are zero, since a low bound has only zeros after the bits of the longest prefix

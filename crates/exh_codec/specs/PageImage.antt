@@ -3,6 +3,7 @@ use Rattle.std.specs.Prelude.{◌≡◌, ℕ, ◌-◌, ◌^◌, ◌<◌, ◌≤�
 use Rattle.std.specs.List.{AllByRecursion, flat_map}
 use Rattle.sha2.specs.Sha256.{sha256}
 use Rattle.exh_prefix.specs.declared.prefix.TheConstants.{LIMIT}
+use Rattle.exh_prefix.specs.Layout.{written_version}
 use Rattle.exh_prefix.specs.Version.{Version}
 use Rattle.exh_page.specs.declared.page.Page.{Page}
 use Rattle.exh_page.specs.declared.page.Page.TheVariants.{Live, Forward}
@@ -51,4 +52,9 @@ pub record IsLaidOut (version : Version) (pseudo : List ℕ → ℕ) (page : Pag
 -- the block is the image of the page, which is well formed
 pub record IsImage (version : Version) (pseudo : List ℕ → ℕ) (page : Page) (block : List ℕ) : Type 0 where
   pub valid : IsPage version pseudo page
+  pub whole : block ≡ sealed (content_of page)
+
+-- the block is the page's in a file of the version that is written, whatever the keyer is
+pub record IsBlockOf (page : Page) (block : List ℕ) : Type 0 where
+  pub in_range : IsInRange written_version page
   pub whole : block ≡ sealed (content_of page)

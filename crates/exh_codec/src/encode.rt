@@ -6,12 +6,15 @@ ghost use Rattle.exh_page.specs.Page.{records_of, IsWellFormed};
 ghost use Rattle.exh_codec.specs.declared.block.TheConstants.{BLOCK_LEN, CONTENT_LEN};
 ghost use Rattle.exh_page.specs.KeyMap.{pair_of};
 ghost use Rattle.exh_codec.specs.Cells.{IsSizedPair, pair_image};
+ghost use Rattle.exh_codec.specs.declared.head.TheConstants.{HEAD_LEN};
+ghost use Rattle.exh_codec.specs.Head.{head_bytes, head_with};
 ghost use Rattle.exh_codec.specs.PageImage.{used_of, content_of, IsHeld, IsPage, IsImage};
+ghost use Rattle.exh_page.specs.PageHead.{count_in};
 
 use crate::block::{BLOCK_LEN, CONTENT_LEN, seal};
 use crate::head::{HEAD_LEN, Head};
 use exh_keyer::Keyer;
-use exh_page::{KEY_LIMIT, Page, Record, Records, VALUE_LIMIT};
+use exh_page::{KEY_LIMIT, Page, PageHead, Record, Records, VALUE_LIMIT};
 
 /// The greatest length of a record in an image, in bytes.
 const RECORD_LEN: usize = 2 + KEY_LIMIT + VALUE_LIMIT;
@@ -53,6 +56,16 @@ pub fn lay_over(block: &mut [u8; BLOCK_LEN], page: &Page)
 {
     let end = put_page(block, page);
     block[end..CONTENT_LEN].fill(0);
+}
+
+/// Writes the head of the image of a page that has this one, and at most 16 records, over the first
+/// bytes of a block. It takes no memory.
+pub fn put_head(block: &mut [u8; BLOCK_LEN], head: &PageHead)
+    requires { count_in head.now ≤ CAP_LIMIT }
+    ensures { block.new ≡ head_bytes (head_with head.now) ++ drop HEAD_LEN block.old }
+{
+    let bytes = Head::with(head).to_bytes();
+    block[..HEAD_LEN].copy_from_slice(&bytes);
 }
 
 // Writes a page over the first bytes of a block, and answers how many it takes.

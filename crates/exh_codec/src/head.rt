@@ -2,11 +2,11 @@ ghost use Rattle.std.specs.Prelude.{◌≡◌, ℕ, List, length, slice_index, I
 
 use crate::kind::Kind;
 use byteorder::{BigEndian, ByteOrder};
-use exh_page::Page;
+use exh_page::{Page, PageHead};
 use exh_prefix::PageNo;
 
 /// How many bytes of an image stand before its records.
-pub(crate) const HEAD_LEN: usize = 16;
+pub const HEAD_LEN: usize = 16;
 
 /// Where the bytes of a prefix or low bound begin.
 pub(crate) const LOW_START: usize = 8;
@@ -32,10 +32,11 @@ impl Head {
     ghost use Rattle.std.specs.Prelude.{◌≡◌, ◌≤◌, ◌<◌, ◌^◌, ℕ, List, length, slice_index, IfSome, IfNone};
     ghost use Rattle.exh_codec.specs.declared.head.TheConstants.{HEAD_LEN};
     ghost use Rattle.exh_codec.specs.declared.kind.Kind.{Kind};
-    ghost use Rattle.exh_codec.specs.Head.{page_kind_byte, head_of, head_bytes, IsReadHead};
+    ghost use Rattle.exh_codec.specs.Head.{page_kind_byte, head_of, head_bytes, head_with, IsReadHead};
     ghost use Rattle.exh_prefix.specs.declared.prefix.TheConstants.{LIMIT};
     ghost use Rattle.exh_page.specs.declared.page.TheConstants.{CAP_LIMIT};
     ghost use Rattle.exh_page.specs.Page.{records_of};
+    ghost use Rattle.exh_page.specs.PageHead.{count_in};
 
     /// The head of a page's image.
     pub(crate) fn of(page: &Page) -> Head
@@ -57,6 +58,33 @@ impl Head {
                 low: prefix.low(),
             },
             Page::Forward { low, target } => Head {
+                kind: Kind::Forward,
+                prefix_len: 0,
+                count: 0,
+                link: *target,
+                low: *low,
+            },
+        }
+    }
+
+    /// The head of the image of a page that has this one.
+    pub(crate) fn with(head: &PageHead) -> Head
+        requires { count_in head.now ≤ CAP_LIMIT }
+        ensures { result ≡ head_with head.now }
+    {
+        match head {
+            PageHead::Live {
+                prefix,
+                right,
+                count,
+            } => Head {
+                kind: Kind::Live,
+                prefix_len: prefix.len(),
+                count: *count as u8,
+                link: right.unwrap_or(NO_LINK),
+                low: prefix.low(),
+            },
+            PageHead::Forward { low, target } => Head {
                 kind: Kind::Forward,
                 prefix_len: 0,
                 count: 0,

@@ -8,11 +8,13 @@ pub use block::{
 pub use decode::{
     are_zero, decode_content, decode_head, decode_page, decode_page_of, decode_page_v1,
 };
-pub use encode::{encode_page, lay_out, lay_over};
+pub use encode::{encode_page, lay_out, lay_over, put_head};
+pub use head::HEAD_LEN;
 pub use image_fault::ImageFault;
 pub use laws::{
     blocks_are_read, images_are_blocks, images_are_sealed, images_pass, one_image, one_page,
 };
+pub use read_pages::ReadPages;
 
 mod block;
 mod borrowed_record;
@@ -24,3 +26,4 @@ mod image_fault;
 mod kind;
 mod laws;
 mod pages;
+mod read_pages;

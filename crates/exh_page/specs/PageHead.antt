@@ -1,5 +1,6 @@
 -- A page without its records.
-use Rattle.std.specs.Prelude.{⊤, ℕ, length}
+use Rattle.std.specs.Prelude.{◌≡◌, ⊤, ℕ, List, length, slice_get, Some}
+use Rattle.exh_prefix.specs.Prefix.{low_of}
 use Rattle.exh_page.specs.declared.page.Page.{Page}
 use Rattle.exh_page.specs.declared.page.Page.TheVariants.{Live, Forward}
 use Rattle.exh_page.specs.declared.page_head.PageHead.{PageHead}
@@ -19,3 +20,12 @@ IsLiveHead (ForwardHead low target) = ⊥
 abbrev pub count_in : PageHead → ℕ
 count_in (LiveHead prefix right count) = count
 count_in (ForwardHead low target) = 0
+
+-- the least pseudokey that the page is for
+abbrev pub low_in : PageHead → ℕ
+low_in (LiveHead prefix right count) = low_of prefix
+low_in (ForwardHead low target) = low
+
+-- the page of a number is there, and has this head
+abbrev pub HasHead : List Page → ℕ → PageHead → Type 0
+HasHead pages number head = (page : Page) × (slice_get pages number ≡ Some page) × (head ≡ head_of page)

@@ -1,11 +1,12 @@
 -- What a search for a place finds in rising records.
-use Rattle.std.specs.Prelude.{◌≡◌, ℕ, ◌+◌, ◌-◌, ◌^◌, ◌<◌, ◌≤◌, Bool, cond, List, length, take, drop, slice_get, Some, None, Result, Ok, Err}
+use Rattle.std.specs.Prelude.{◌≡◌, ℕ, ◌+◌, ◌-◌, ◌^◌, ◌<◌, ◌≤◌, Bool, cond, List, length, take, drop, slice_get, Option, Some, None, Result, Ok, Err}
 use Rattle.std.specs.List.{AllByRecursion, flat_map}
 use Rattle.exh_prefix.specs.Prefix.{low_of}
 use Rattle.exh_page.specs.declared.record.Record.{Record}
 use Rattle.exh_page.specs.declared.spot.Spot.{Spot}
 use Rattle.exh_page.specs.PackedRecords.{record_text}
 use Rattle.exh_page.specs.Place.{Place}
+use Rattle.exh_page.specs.Records.{value_at}
 use Rattle.exh_page.specs.RecordsLemmas.{IsCut}
 
 -- the record of the place stands at i
@@ -28,6 +29,11 @@ IsSpot records spot = spot.start ≡ length (flat_map record_text (take spot.ind
 abbrev pub IsSought : Place → List Record → Result Spot Spot → Type 0
 IsSought place records (Ok spot) = IsSpot records spot × IsFound place records spot.index
 IsSought place records (Err spot) = IsSpot records spot × IsGap place records spot.index
+
+-- where the record of a place stands, if there is one
+abbrev pub IsStood : Place → List Record → Option Spot → Type 0
+IsStood place records (Some spot) = IsSpot records spot × IsFound place records spot.index
+IsStood place records None = value_at place records ≡ None
 
 -- the least pseudokey that a prefix begins, or else the first past all that it begins
 abbrev pub bound_of : List Bool → Bool → ℕ

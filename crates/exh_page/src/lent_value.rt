@@ -22,8 +22,8 @@ impl<'a> Model for LentValue<'a> {
 }
 
 impl<'a> LentValue<'a> {
-    /// The value of these bytes.
-    pub(crate) fn of(bytes: &'a [u8]) -> LentValue<'a>
+    /// The value of these bytes, at most 128 of them.
+    pub fn of(bytes: &'a [u8]) -> LentValue<'a>
         requires { length bytes.now ≤ VALUE_LIMIT }
         ensures { result ≡ bytes.now }
     {

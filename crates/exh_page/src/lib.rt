@@ -5,20 +5,25 @@
 pub use key::{KEY_LIMIT, Key};
 pub use laws::{buddies_unite, children_share_all, pages_have_limits, shares_are_records};
 pub use lent_value::LentValue;
+pub use lookup::Lookup;
 pub use page::{CAP_LIMIT, Page};
 pub use page_head::PageHead;
+pub use page_list::PageList;
 pub use record::Record;
 pub use records::{Records, RecordsIter};
 pub use size_fault::SizeFault;
 pub use spot::Spot;
 pub use value::{VALUE_LIMIT, Value};
 
+mod halves;
 mod key;
 mod laws;
 mod lent_value;
+mod lookup;
 mod packed_records;
 mod page;
 mod page_head;
+mod page_list;
 mod record;
 mod records;
 mod short_bytes;

@@ -1,6 +1,6 @@
 ghost use Rattle.std.specs.Prelude.{◌≡◌, ℕ, ◌≤◌, ◌↔◌, length, IsTrue, IsOk, IfSome, IfOk, OnErr};
 
-use crate::{Key, PageHead, Record, Records, Spot, Value};
+use crate::{Key, Lookup, PageHead, Record, Records, Spot, Value};
 use exh_prefix::{PageNo, Prefix};
 use std::alloc::AllocError;
 
@@ -29,8 +29,9 @@ impl Page {
     ghost use Rattle.std.specs.Prelude.{◌≡◌, ◌<◌, ◌≤◌, ◌++◌, ◌↔◌, length, remove, IsTrue, IsOk, IfSome, IfOk, OnOk, OnErr};
     ghost use Rattle.exh_page.specs.Place.{place_of};
     ghost use Rattle.exh_page.specs.Records.{IsRising, value_at, with_record, without_place};
-    ghost use Rattle.exh_page.specs.Search.{IsSought, IsSpot};
-    ghost use Rattle.exh_page.specs.Page.{low_bound, records_of, share_of, with_records, IsDivisible, IsLive};
+    ghost use Rattle.exh_page.specs.Search.{IsSpot, IsStood};
+    ghost use Rattle.exh_page.specs.Lookup.{IsLookup};
+    ghost use Rattle.exh_page.specs.Page.{low_bound, records_of, with_records, IsLive};
     ghost use Rattle.exh_page.specs.PageHead.{head_of};
 
     /// The low bound: the least pseudokey that the page is for.
@@ -74,6 +75,25 @@ impl Page {
         }
     }
 
+    /// What the page has for a key with this pseudokey: its head, and where the record of both stands,
+    /// if it has one. It takes no memory.
+    pub fn look_up(&self, pseudokey: u64, key: &Key) -> Lookup<'_>
+        ensures { IsLookup (pseudokey, key.now) self.now result }
+    {
+        let (spot, value) = match self {
+            Page::Live { records, .. } => {
+                let (spot, value) = records.seek(pseudokey, key);
+                (spot.ok(), value)
+            }
+            Page::Forward { .. } => (None, None),
+        };
+        Lookup {
+            head: self.head(),
+            spot,
+            value,
+        }
+    }
+
     /// The value of a key with this pseudokey, or `None` where no record of the page has both. It
     /// takes no memory.
     pub fn find(&self, pseudokey: u64, key: &Key) -> Option<Value>
@@ -102,25 +122,31 @@ impl Page {
         }
     }
 
-    /// Puts a record into a live page, at the spot that a search of its records for the key came to.
-    /// Neither the number of records nor the prefix is tested. Only a new record, or a value longer
-    /// than the one it replaces, may need memory: where that is refused, an `AllocError`, the page is
-    /// as before.
+    /// Puts a record of a key into a live page: over the record that stands at a spot, where the page has
+    /// one, else where it belongs. Neither the number of records nor the prefix is tested. Only a new
+    /// record, or a value longer than the one it replaces, may need memory: where that is refused, an
+    /// `AllocError`, the page is as before.
     pub fn put_at(
         &mut self,
-        spot: Result<Spot, Spot>,
+        stood: Option<Spot>,
         pseudokey: u64,
         key: &Key,
         value: &Value,
     ) -> Result<(), AllocError>
         requires live { IsLive self.old }
-        requires sought { IsSought (pseudokey, key.now) (records_of self.old) spot }
+        requires stood { IsStood (pseudokey, key.now) (records_of self.old) stood }
         ensures ok { OnOk result (self.new ≡ with_records (with_record (record { pseudokey = pseudokey; key = key.now; value = value.now }) (records_of self.old)) self.old) }
         ensures err { OnErr result (self.new ≡ self.old) }
         ensures replaces { IfSome (value_at (pseudokey, key.now) (records_of self.old)) (λ old. length value.now ≤ length old → IsOk result) }
     {
         match self {
-            Page::Live { records, .. } => records.put_at(spot, pseudokey, key, value),
+            Page::Live { records, .. } => {
+                let spot = match stood {
+                    Some(spot) => Ok(spot),
+                    None => records.seek(pseudokey, key).0,
+                };
+                records.put_at(spot, pseudokey, key, value)
+            }
             Page::Forward { .. } => unreachable!(),
         }
     }
@@ -148,47 +174,6 @@ impl Page {
         match self {
             Page::Live { records, .. } => records.remove_at(spot),
             Page::Forward { .. } => unreachable!(),
-        }
-    }
-
-    /// The records that a split gives the child of a live page's prefix by this bit, in their order;
-    /// no key is hashed (Fagin et al. 1979). The prefix is shorter than `LIMIT`. It takes memory for
-    /// the records: an `AllocError` where that is refused.
-    pub fn divide(&self, bit: bool) -> Result<Records, AllocError>
-        requires { IsDivisible self.now }
-        ensures { IfOk result (λ records. records ≡ share_of bit self.now) }
-    {
-        match self {
-            Page::Live {
-                prefix,
-                records,
-                ..
-            } => match prefix.child(bit) {
-                Some(child) => records.begun_by(child),
-                None => unreachable!(),
-            },
-            Page::Forward { .. } => unreachable!(),
-        }
-    }
-
-    /// The records that a merge gives a page: its own, and those of its right buddy, which stand
-    /// after them all. It takes memory where the page has no room for the buddy's: an `AllocError`
-    /// where that is refused.
-    pub fn absorb(self, buddy: &Page) -> Result<Records, AllocError>
-        requires live { IsLive self }
-        requires buddy_live { IsLive buddy.now }
-        requires rising { IsRising (records_of self ++ records_of buddy.now) }
-        ensures { IfOk result (λ records. records ≡ records_of self ++ records_of buddy.now) }
-    {
-        match (self, buddy) {
-            (
-                Page::Live { records, .. },
-                Page::Live {
-                    records: others,
-                    ..
-                },
-            ) => { records.followed_by(others) }
-            _ => unreachable!(),
         }
     }
 

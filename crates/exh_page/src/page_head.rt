@@ -1,3 +1,5 @@
+ghost use Rattle.std.specs.Prelude.{◌≡◌};
+
 use exh_prefix::{PageNo, Prefix};
 
 /// A page without its records.
@@ -14,4 +16,19 @@ pub enum PageHead {
         low: u64,
         target: PageNo,
     },
+}
+
+impl PageHead {
+    ghost use Rattle.std.specs.Prelude.{◌≡◌};
+    ghost use Rattle.exh_page.specs.PageHead.{low_in};
+
+    /// The low bound: the least pseudokey that the page is for.
+    pub fn low(&self) -> u64
+        ensures { result ≡ low_in self.now }
+    {
+        match self {
+            PageHead::Live { prefix, .. } => prefix.low(),
+            PageHead::Forward { low, .. } => *low,
+        }
+    }
 }

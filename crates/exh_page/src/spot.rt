@@ -2,7 +2,7 @@
 #[derive(Clone, Copy)]
 pub struct Spot {
     /// How many records stand before it.
-    pub(crate) index: usize,
+    pub index: usize,
     /// How many bytes the keys and values of these have.
-    pub(crate) start: usize,
+    pub start: usize,
 }
