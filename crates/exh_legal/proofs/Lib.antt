@@ -35,6 +35,7 @@ pub mod Tiles
 pub mod LeafTests
 pub mod Next
 pub mod Each
+pub mod Heads
 pub mod Fits
 pub mod Entries
 pub mod Firsts

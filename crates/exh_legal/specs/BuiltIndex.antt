@@ -14,7 +14,9 @@ use Rattle.exh_notice.specs.declared.entry.Kind.TheVariants.{Split, Merge}
 use Rattle.exh_table.specs.Table.{TableMap}
 use Rattle.exh_page.specs.declared.page.Page.{Page}
 use Rattle.exh_page.specs.declared.page.Page.TheVariants.{Live, Forward}
+use Rattle.exh_page.specs.declared.page_head.PageHead.{PageHead}
 use Rattle.exh_page.specs.Page.{IsLive, low_bound}
+use Rattle.exh_page.specs.PageHead.{head_of}
 use Rattle.exh_legal.specs.Fit.{IsWardEntry}
 use Rattle.exh_legal.specs.Growth.{IsPageOf}
 use Rattle.exh_legal.specs.Pages.{IsAt}
@@ -45,6 +47,10 @@ abbrev pub next_of : List (ℕ × ℕ) → List Bool → Option ℕ
 next_of entries prefix = page_number_at entries (end_of prefix)
 
 -- ---- what is asked of one page
+
+-- it holds of each page that has this head
+abbrev pub EachOf : PageHead → (Page → Type 0) → Type 0
+EachOf head P = (page : Page) → head ≡ head_of page → P page
 
 -- a right link is the page that the index has where the prefix ends
 abbrev pub IsLinkedBy : List (ℕ × ℕ) → Page → Type 0

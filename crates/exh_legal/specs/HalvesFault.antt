@@ -1,22 +1,18 @@
 -- Where a page isn't halved, and where two aren't put together.
-use Rattle.std.specs.Prelude.{◌≡◌, ⊤, ◌⊎◌, ℕ, ◌+◌, ◌<◌, ◌≤◌, Bool, true, List, [], ◌∷◌, ◌++◌, length, Option}
+use Rattle.std.specs.Prelude.{◌≡◌, ◌⊎◌, ℕ, ◌+◌, ◌<◌, ◌≤◌, Bool, true, List, [], ◌∷◌, ◌++◌, length, Option}
 use Rattle.exh_prefix.specs.declared.prefix.TheConstants.{LIMIT}
-use Rattle.exh_page.specs.declared.page.Page.{Page}
-use Rattle.exh_page.specs.declared.page.Page.TheVariants.{Live}
-use Rattle.exh_page.specs.Page.{IsLive}
 use Rattle.exh_page.specs.PageHead.{IsLiveHead}
 use Rattle.exh_page.specs.declared.page_head.PageHead.{PageHead}
 use Rattle.exh_page.specs.declared.page_head.PageHead.TheVariants.{Live as LiveHead}
 use Rattle.exh_legal.specs.declared.halves_fault.HalvesFault.{HalvesFault}
-use Rattle.exh_legal.specs.declared.halves_fault.HalvesFault.TheVariants.{NotLive, NotFull, AtLimit, NoBuddy, BuddySplit, TooMany, Memory}
+use Rattle.exh_legal.specs.declared.halves_fault.HalvesFault.TheVariants.{NotLive, NotFull, AtLimit, NoBuddy, BuddySplit, TooMany}
 use Rattle.exh_legal.specs.declared.left_half.LeftHalf.{LeftHalf}
 
--- the refusal of halves that a page fits, the first in this order; memory at any point
-abbrev pub NotHalved : ℕ → Page → HalvesFault → Type 0
-NotHalved cap page NotLive = IsLive page → ⊥
-NotHalved cap (Live prefix link records) NotFull = length records < cap
-NotHalved cap (Live prefix link records) AtLimit = (cap ≤ length records) × (LIMIT ≤ length prefix)
-NotHalved cap page Memory = ⊤
+-- the refusal of a split that a page fits, the first in this order
+abbrev pub NotHalved : ℕ → PageHead → HalvesFault → Type 0
+NotHalved cap page NotLive = IsLiveHead page → ⊥
+NotHalved cap (LiveHead prefix link count) NotFull = count < cap
+NotHalved cap (LiveHead prefix link count) AtLimit = (cap ≤ count) × (LIMIT ≤ length prefix)
 NotHalved cap page fault = ⊥
 
 -- the refusal of a page that is no left half

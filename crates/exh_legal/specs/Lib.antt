@@ -15,6 +15,6 @@ pub mod LegalParts
 pub mod Reasons
 pub mod ReasonLaws
 pub mod BuiltIndex
-pub mod Halves
+pub mod HalvedPrefix
 pub mod LeftHalf
 pub mod HalvesFault

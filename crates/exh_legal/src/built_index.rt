@@ -5,11 +5,10 @@ ghost use Rattle.exh_page.specs.Page.{IsLive, low_bound};
 ghost use Rattle.exh_prefix.specs.Prefix.{low_of};
 ghost use Rattle.exh_page.specs.declared.page.Page.{Page};
 ghost use Rattle.exh_legal.specs.LegalParts.{IsBounded};
-ghost use Rattle.exh_legal.specs.BuiltIndex.{AreIndex};
+ghost use Rattle.exh_legal.specs.BuiltIndex.{AreIndex, EachOf};
 ghost use Rattle.exh_legal.specs.Reasons.{HasLows};
 
-use crate::PageList;
-use exh_page::Page;
+use exh_page::{PageHead, PageList};
 use exh_prefix::Prefix;
 use std::alloc::{AllocError, Global};
 use std::collections::BTreeMap;
@@ -32,7 +31,7 @@ pub(crate) fn build_index<P: PageList>(
     }
     let mut index = BTreeMap::new(alloc);
     for number in 0..pages.page_count() {
-        let low = low_bound_of(pages.page(number));
+        let low = low_bound_of(pages.head(number));
         if !ward.begins(low) || index.contains_key(&low) {
             return Ok(None);
         }
@@ -41,15 +40,18 @@ pub(crate) fn build_index<P: PageList>(
     Ok(Some(index))
 }
 
-// A page's low bound. Its prefix has at most `LIMIT` bits.
-fn low_bound_of(page: &Page) -> u64
-    ensures low { result ≡ low_bound page.now }
-    ensures bounded { IsBounded page.now }
+/// The low bound of a page with this head. Its prefix has at most `LIMIT` bits.
+pub(crate) fn low_bound_of(page: PageHead) -> u64
+    ensures low { EachOf page (λ page. result ≡ low_bound page) }
+    ensures bounded { EachOf page IsBounded }
 {
-    if let Page::Live { prefix, .. } = page {
-        let _bits = prefix.len();
+    match page {
+        PageHead::Live { prefix, .. } => {
+            let _bits = prefix.len();
+            prefix.low()
+        }
+        PageHead::Forward { low, .. } => low,
     }
-    page.low()
 }
 
 // Whether page 0 is live and has the ward's low bound.
@@ -59,6 +61,8 @@ fn begins_ward<P: PageList>(ward: Prefix, pages: &P) -> bool
     if pages.page_count() == 0 {
         return false;
     }
-    let first = pages.page(0);
-    first.is_live() && first.low() == ward.low()
+    match pages.head(0) {
+        PageHead::Live { prefix, .. } => prefix.low() == ward.low(),
+        PageHead::Forward { .. } => false,
+    }
 }

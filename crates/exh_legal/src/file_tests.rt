@@ -7,8 +7,9 @@ ghost use Rattle.exh_prefix.specs.Leading.{ward_prefix};
 ghost use Rattle.exh_legal.specs.LegalParts.{parts_of};
 ghost use Rattle.exh_legal.specs.Reasons.{IsFirstReason, lesser_of};
 
+use crate::Reason;
 use crate::ward_tests::ward_reason;
-use crate::{PageList, Reason};
+use exh_page::PageList;
 use exh_prefix::Prefix;
 use exh_table::Table;
 use std::alloc::{AllocError, Global};

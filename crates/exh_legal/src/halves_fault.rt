@@ -1,7 +1,3 @@
-ghost use Rattle.std.specs.Prelude.{◌≡◌};
-ghost use Rattle.exh_legal.specs.declared.halves_fault.HalvesFault.TheVariants.{Memory};
-
-use std::alloc::AllocError;
 use thiserror::Error;
 
 /// Why a page isn't halved, or two pages aren't put together.
@@ -25,15 +21,4 @@ pub enum HalvesFault {
     /// Both pages have this many records together, more than a page may.
     #[error("both pages have {0} records together")]
     TooMany(usize),
-    /// A growth was refused.
-    #[error("out of memory")]
-    Memory,
-}
-
-impl From<AllocError> for HalvesFault {
-    ghost from_gives = { λ _ fault. fault ≡ Memory };
-
-    fn from(_error: AllocError) -> HalvesFault {
-        HalvesFault::Memory
-    }
 }

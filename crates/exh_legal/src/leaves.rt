@@ -6,9 +6,8 @@ ghost use Rattle.exh_legal.specs.LegalParts.{IsBounded};
 ghost use Rattle.exh_legal.specs.BuiltIndex.{AreIndex, end_of};
 ghost use Rattle.exh_legal.specs.Reasons.{HasLows, HasLeaves};
 
-use crate::PageList;
 use crate::built_index::BuiltIndex;
-use exh_page::Page;
+use exh_page::{PageHead, PageList};
 use exh_prefix::Prefix;
 
 /// Whether each pseudokey of a ward is begun by exactly one live prefix, and none of these is shorter
@@ -23,11 +22,11 @@ pub(crate) fn has_leaves<P: PageList>(ward: Prefix, pages: &P, index: &BuiltInde
     let least = ward.len();
     let mut end = u128::from(ward.low());
     for (_, number) in index.iter() {
-        if let Page::Live { prefix, .. } = pages.page(*number) {
+        if let PageHead::Live { prefix, .. } = pages.head(*number) {
             if prefix.len() < least || u128::from(prefix.low()) != end {
                 return false;
             }
-            end = prefix_end(*prefix);
+            end = prefix_end(prefix);
         }
     }
     end == prefix_end(ward)

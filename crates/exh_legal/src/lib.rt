@@ -4,9 +4,8 @@
 
 pub use change_numbers::index_of;
 pub use file_tests::first_reason;
-pub use halves::Halves;
+pub use full_page::halved_prefix;
 pub use halves_fault::HalvesFault;
-pub use joined_page::{forward_from_right, join_pages};
 pub use laws::{
     entries_are_few, fitting_tables_begin_wards, left_children_link_to_siblings,
     live_left_children_merge, live_pages_split, lone_pages_are_legal, merges_keep_legal,
@@ -14,7 +13,6 @@ pub use laws::{
 };
 pub use left_half::LeftHalf;
 pub use page_index::PageIndex;
-pub use page_list::PageList;
 pub use reason::Reason;
 pub use reason_laws::{legal_files_pass, legal_tables_have_room};
 pub use ward_tests::ward_reason;
@@ -23,15 +21,13 @@ mod built_index;
 mod cap;
 mod change_numbers;
 mod file_tests;
-mod halves;
+mod full_page;
 mod halves_fault;
-mod joined_page;
 mod laws;
 mod leaves;
 mod left_half;
 mod links;
 mod page_index;
-mod page_list;
 mod reason;
 mod reason_laws;
 mod table_fit;

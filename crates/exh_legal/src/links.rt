@@ -2,13 +2,12 @@ ghost use Rattle.std.specs.Prelude.{◌≡◌, ◌↔◌, ℕ, ◌<◌, ◌^◌,
 ghost use Rattle.exh_page.specs.declared.page.Page.{Page};
 ghost use Rattle.exh_legal.specs.Pages.{IsAt};
 ghost use Rattle.exh_legal.specs.LegalParts.{IsBounded};
-ghost use Rattle.exh_legal.specs.BuiltIndex.{AreIndex, IsAimedBy, IsLinkedBy, next_of, page_number_at};
+ghost use Rattle.exh_legal.specs.BuiltIndex.{AreIndex, EachOf, IsAimedBy, IsLinkedBy, next_of, page_number_at};
 ghost use Rattle.exh_legal.specs.Reasons.{HasLows, HasLeaves, HasLinks, HasTargets};
 
-use crate::PageList;
 use crate::built_index::BuiltIndex;
 use crate::leaves::prefix_end;
-use exh_page::Page;
+use exh_page::{PageHead, PageList};
 use exh_prefix::Prefix;
 
 /// Whether each right link of a ward, whose leaves are legal, is the live page with the next greater
@@ -23,23 +22,23 @@ pub(crate) fn has_links<P: PageList>(ward: Prefix, pages: &P, index: &BuiltIndex
     // A prefix has at most `LIMIT` bits.
     let _bits = ward.len();
     for number in 0..pages.page_count() {
-        if !is_linked(pages.page(number), index) {
+        if !is_linked(pages.head(number), index) {
             return false;
         }
     }
     true
 }
 
-// Whether a page's right link is the page whose low bound is where its prefix ends.
-fn is_linked(page: &Page, index: &BuiltIndex) -> bool
+// Whether the right link of a page with this head is the page whose low bound is where its prefix ends.
+fn is_linked(page: PageHead, index: &BuiltIndex) -> bool
     requires { (low number : ℕ) → page_number_at index.now.entries low ≡ Some number → low < 2 ^ 64 }
-    ensures { IsTrue result ↔ IsLinkedBy index.now.entries page.now }
+    ensures { EachOf page (λ page. IsTrue result ↔ IsLinkedBy index.now.entries page) }
 {
     match page {
-        Page::Live { prefix, right, .. } => {
-            right.map(|right| right as usize) == next_page(*prefix, index)
+        PageHead::Live { prefix, right, .. } => {
+            right.map(|right| right as usize) == next_page(prefix, index)
         }
-        Page::Forward { .. } => true,
+        PageHead::Forward { .. } => true,
     }
 }
 
@@ -59,22 +58,23 @@ pub(crate) fn has_targets<P: PageList>(pages: &P, index: &BuiltIndex) -> bool
     ensures { IsTrue result ↔ HasTargets (P.pages pages.now) }
 {
     for number in 0..pages.page_count() {
-        if !is_aimed(pages.page(number), index) {
+        if !is_aimed(pages.head(number), index) {
             return false;
         }
     }
     true
 }
 
-// Whether a forwarding page's target is the page of its low bound with the lowest set bit cleared.
-fn is_aimed(page: &Page, index: &BuiltIndex) -> bool
-    ensures { IsTrue result ↔ IsAimedBy index.now.entries page.now }
+// Whether the target of a forwarding page with this head is the page of its low bound with the lowest
+// set bit cleared.
+fn is_aimed(page: PageHead, index: &BuiltIndex) -> bool
+    ensures { EachOf page (λ page. IsTrue result ↔ IsAimedBy index.now.entries page) }
 {
     match page {
-        Page::Live { .. } => true,
-        Page::Forward { low, target } => {
-            let low = Prefix::clear_lowest(*low);
-            index.get(&low).copied() == Some(*target as usize)
+        PageHead::Live { .. } => true,
+        PageHead::Forward { low, target } => {
+            let low = Prefix::clear_lowest(low);
+            index.get(&low).copied() == Some(target as usize)
         }
     }
 }

@@ -7,13 +7,12 @@ ghost use Rattle.exh_page.specs.declared.page.Page.{Page};
 ghost use Rattle.exh_legal.specs.Fit.{FitsPages, IsWardEntry, parity_of};
 ghost use Rattle.exh_legal.specs.Pages.{IsAt};
 ghost use Rattle.exh_legal.specs.LegalParts.{IsBounded};
-ghost use Rattle.exh_legal.specs.BuiltIndex.{AreIndex, IsOwnEntry, IsRecordedBy, IsToldBy};
+ghost use Rattle.exh_legal.specs.BuiltIndex.{AreIndex, EachOf, IsOwnEntry, IsRecordedBy, IsToldBy};
 ghost use Rattle.exh_legal.specs.Reasons.{HasLows, HasLeaves};
 
-use crate::PageList;
-use crate::built_index::BuiltIndex;
+use crate::built_index::{BuiltIndex, low_bound_of};
 use exh_notice::{Entry, Kind};
-use exh_page::Page;
+use exh_page::{PageHead, PageList};
 use exh_prefix::{LIMIT, Prefix};
 use exh_table::Table;
 
@@ -73,7 +72,7 @@ fn is_own_entry<P: PageList>(
     let Some(number) = index.get(&child.low()).copied() else {
         return false;
     };
-    is_told_by(entry.kind, number, pages.page(number))
+    is_told_by(entry.kind, number, pages.head(number))
 }
 
 // Whether an entry's prefix is the ward's, and its number from 1 on tells its kind.
@@ -100,13 +99,14 @@ fn has_parity(entry: Entry) -> bool
     }
 }
 
-// Whether a split names a page, which is live, or a merge stands where one forwards.
-fn is_told_by(kind: Kind, number: usize, page: &Page) -> bool
-    ensures { IsTrue result ↔ IsToldBy kind number page.now }
+// Whether a split names a page with this head, which is live, or a merge stands where one forwards.
+fn is_told_by(kind: Kind, number: usize, page: PageHead) -> bool
+    ensures { EachOf page (λ page. IsTrue result ↔ IsToldBy kind number page) }
 {
-    match kind {
-        Kind::Split { right } => right as usize == number && page.is_live(),
-        Kind::Merge => !page.is_live(),
+    match (kind, page) {
+        (Kind::Split { right }, PageHead::Live { .. }) => right as usize == number,
+        (Kind::Merge, PageHead::Forward { .. }) => true,
+        _ => false,
     }
 }
 
@@ -115,18 +115,18 @@ fn has_all_entries<P: PageList>(table: &Table, pages: &P) -> bool
     ensures { IsTrue result ↔ ((number : ℕ) (page : Page) → IsAt (P.pages pages.now) number page → 0 < number → IsRecordedBy table.now page) }
 {
     for number in 1..pages.page_count() {
-        if !is_recorded(table, pages.page(number)) {
+        if !is_recorded(table, pages.head(number)) {
             return false;
         }
     }
     true
 }
 
-// Whether the table has an entry where a page's low bound is the right child's.
-fn is_recorded(table: &Table, page: &Page) -> bool
-    ensures { IsTrue result ↔ IsRecordedBy table.now page.now }
+// Whether the table has an entry where the low bound of a page with this head is the right child's.
+fn is_recorded(table: &Table, page: PageHead) -> bool
+    ensures { EachOf page (λ page. IsTrue result ↔ IsRecordedBy table.now page) }
 {
-    match parent_of(page.low()) {
+    match parent_of(low_bound_of(page)) {
         Some(parent) => table.get(parent).is_some(),
         None => true,
     }

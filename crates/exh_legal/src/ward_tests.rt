@@ -4,12 +4,13 @@ ghost use Rattle.exh_legal.specs.Pages.{IsAt};
 ghost use Rattle.exh_legal.specs.LegalParts.{IsBounded};
 ghost use Rattle.exh_legal.specs.Reasons.{IsFirstOfWard};
 
+use crate::Reason;
 use crate::built_index::build_index;
 use crate::cap::keeps_cap;
 use crate::leaves::has_leaves;
 use crate::links::{has_links, has_targets};
 use crate::table_fit::fits_pages;
-use crate::{PageList, Reason};
+use exh_page::PageList;
 use exh_prefix::Prefix;
 use exh_table::Table;
 use std::alloc::{AllocError, Global};

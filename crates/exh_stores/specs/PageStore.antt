@@ -1,18 +1,13 @@
 -- A store of pages: what its calls leave of it.
+pub use Rattle.exh_page.specs.PageHead.{HasHead}
 use Rattle.std.specs.Prelude.{◌≡◌, ℕ, ◌<◌, ◌↔◌, List, slice_get, Some, Result, Ok, Err}
 use Rattle.exh_page.specs.declared.page.Page.{Page}
-use Rattle.exh_page.specs.declared.page_head.PageHead.{PageHead}
-use Rattle.exh_page.specs.PageHead.{head_of}
 use Rattle.exh_stores.specs.declared.pages_fault.PagesFault.{PagesFault}
 use Rattle.exh_stores.specs.declared.pages_fault.PagesFault.TheVariants.{Memory, Page as OutOfReach}
 
 -- what holds of the page of a number, if there is one
 abbrev pub IfPage : List Page → ℕ → (Page → Type 0) → Type 0
 IfPage pages number P = (page : Page) → slice_get pages number ≡ Some page → P page
-
--- the page of a number is there, and has this head
-abbrev pub HasHead : List Page → ℕ → PageHead → Type 0
-HasHead pages number head = (page : Page) × (slice_get pages number ≡ Some page) × (head ≡ head_of page)
 
 -- the count of failures rises where a call answers a page fault, and only there
 abbrev pub CountsFaults : {T : Type 0} → Result T PagesFault → ℕ → ℕ → Type 0

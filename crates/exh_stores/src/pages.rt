@@ -1,7 +1,9 @@
 ghost use Rattle.std.specs.Prelude.{◌≡◌, ◌≢◌, ℕ, ◌-◌, ◌^◌, ◌<◌, ◌≤◌, List, [], ◌∷◌, ◌++◌, length, remove, slice_get, slice_set, Some, IfOk, OnOk, OnErr};
-ghost use Rattle.exh_page.specs.Page.{IsLive, records_of, with_records};
-ghost use Rattle.exh_page.specs.Records.{with_record};
-ghost use Rattle.exh_page.specs.Search.{IsSought, IsSpot};
+ghost use Rattle.exh_page.specs.Halves.{left_half, right_half, sent_to, union};
+ghost use Rattle.exh_page.specs.Lookup.{HasPseudokey, IsLookup};
+ghost use Rattle.exh_page.specs.Page.{IsDivisible, IsLive, records_of, with_records};
+ghost use Rattle.exh_page.specs.Records.{IsRising, with_record};
+ghost use Rattle.exh_page.specs.Search.{IsSpot, IsStood};
 ghost use Rattle.exh_page.specs.declared.page.Page.{Page};
 ghost use Rattle.exh_page.specs.declared.page.TheConstants.{CAP_LIMIT};
 ghost use Rattle.exh_codec.specs.Block.{sealed};
@@ -10,8 +12,8 @@ ghost use Rattle.exh_stores.specs.PageStore.{IfPage, HasHead, CountsFaults, Take
 
 use crate::PagesFault;
 use exh_codec::BLOCK_LEN;
-use exh_page::{Key, Page, PageHead, Spot, Value};
-use exh_prefix::PageNo;
+use exh_page::{Key, Lookup, Page, PageHead, Spot, Value};
+use exh_prefix::{PageNo, Prefix};
 
 /// A store of pages, numbered from 0 on in the order in which they came. Each call
 /// that answers a `Result` may be refused: `PagesFault::Page` where a page couldn't be reached, which
@@ -28,6 +30,9 @@ pub trait Pages {
 
     /// The pages that are at hand, by their numbers.
     ghost at_hand: { Self → ℕ → Type 0 };
+
+    /// The pages that are within reach, by their numbers.
+    ghost in_reach: { Self → ℕ → Type 0 };
 
     /// How many pages there are. It takes no memory.
     fn count(&self) -> PageNo
@@ -76,19 +81,34 @@ pub trait Pages {
         requires { at_hand self.now number }
         ensures { slice_get (pages self.now) number ≡ Some result.now };
 
-    /// Puts a record into a live page in place, at the spot that a search of its records for the key
-    /// came to. The page with the record is one that the store takes.
+    /// Gets the page of this number within reach. It takes no memory.
+    fn reach(&mut self, number: PageNo) -> Result<(), PagesFault>
+        requires { number < length (pages self.old) }
+        ensures in_reach { OnOk result (in_reach self.new number) }
+        ensures pages { pages self.new ≡ pages self.old }
+        ensures failures { CountsFaults result (failures self.old) (failures self.new) }
+        ensures takes { TakesTheSame takes self.old self.new };
+
+    /// What the page of this number, which is within reach, has for a key. No other record of the page is
+    /// of the key. It takes no memory.
+    fn find(&self, number: PageNo, pseudokey: u64, key: &Key) -> Lookup<'_>
+        requires within { in_reach self.now number }
+        requires hashed { IfPage (pages self.now) number (HasPseudokey pseudokey key.now) }
+        ensures { (page : Page) × (slice_get (pages self.now) number ≡ Some page) × IsLookup (pseudokey, key.now) page result };
+
+    /// Puts a record of a key into a live page in place: over the record that stands at a spot, where the
+    /// page has one, else where it belongs. The page with the record is one that the store takes.
     fn put_at(
         &mut self,
         number: PageNo,
-        spot: Result<Spot, Spot>,
+        stood: Option<Spot>,
         pseudokey: u64,
         key: &Key,
         value: &Value,
     ) -> Result<(), PagesFault>
         requires there { number < length (pages self.old) }
         requires live { IfPage (pages self.old) number IsLive }
-        requires sought { IfPage (pages self.old) number (λ page. IsSought (pseudokey, key.now) (records_of page) spot) }
+        requires stood { IfPage (pages self.old) number (λ page. IsStood (pseudokey, key.now) (records_of page) stood) }
         requires taken { IfPage (pages self.old) number (λ page. takes self.old (with_records (with_record (record { pseudokey = pseudokey; key = key.now; value = value.now }) (records_of page)) page)) }
         ensures ok { OnOk result (IfPage (pages self.old) number (λ page. pages self.new ≡ slice_set (pages self.old) number (with_records (with_record (record { pseudokey = pseudokey; key = key.now; value = value.now }) (records_of page)) page))) }
         ensures err { OnErr result (pages self.new ≡ pages self.old) }
@@ -142,6 +162,50 @@ pub trait Pages {
         requires new_taken { takes self.old new }
         requires taken { takes self.old page }
         ensures ok { OnOk result (pages self.new ≡ slice_set (pages self.old) number page ++ new ∷ []) }
+        ensures err { OnErr result (pages self.new ≡ pages self.old) }
+        ensures failures { CountsFaults result (failures self.old) (failures self.new) }
+        ensures takes { TakesTheSame takes self.old self.new };
+
+    /// Splits a live page whose prefix is shorter than `LIMIT`: it keeps its left half, and the page of
+    /// number `right`, to which it links from then on, becomes its right half. Both change, or neither.
+    fn split_into(&mut self, number: PageNo, right: PageNo) -> Result<(), PagesFault>
+        requires there { number < length (pages self.old) }
+        requires right_there { right < length (pages self.old) }
+        requires apart { number ≢ right }
+        requires divisible { IfPage (pages self.old) number IsDivisible }
+        requires taken { IfPage (pages self.old) number (λ page. takes self.old (left_half right page)) }
+        requires right_taken { IfPage (pages self.old) number (λ page. takes self.old (right_half page)) }
+        ensures ok { OnOk result (IfPage (pages self.old) number (λ page. pages self.new ≡ slice_set (slice_set (pages self.old) number (left_half right page)) right (right_half page))) }
+        ensures err { OnErr result (pages self.new ≡ pages self.old) }
+        ensures failures { CountsFaults result (failures self.old) (failures self.new) }
+        ensures takes { TakesTheSame takes self.old self.new };
+
+    /// Splits such a page into itself and a new one, the right half, whose number is the count so far. The
+    /// greatest number of 32 bits is no page's.
+    fn split_off(&mut self, number: PageNo) -> Result<(), PagesFault>
+        requires there { number < length (pages self.old) }
+        requires room { length (pages self.old) < 2 ^ 32 - 1 }
+        requires divisible { IfPage (pages self.old) number IsDivisible }
+        requires taken { IfPage (pages self.old) number (λ page. takes self.old (left_half (length (pages self.old)) page)) }
+        requires right_taken { IfPage (pages self.old) number (λ page. takes self.old (right_half page)) }
+        ensures ok { OnOk result (IfPage (pages self.old) number (λ page. pages self.new ≡ slice_set (pages self.old) number (left_half (length (pages self.old)) page) ++ right_half page ∷ [])) }
+        ensures err { OnErr result (pages self.new ≡ pages self.old) }
+        ensures failures { CountsFaults result (failures self.old) (failures self.new) }
+        ensures takes { TakesTheSame takes self.old self.new };
+
+    /// Merges two live pages, the halves of a parent: the left one, of this number, becomes the parent's
+    /// page, with the records of both and the right link of its buddy, which sends callers on to it from
+    /// then on. Both change, or neither.
+    fn merge(&mut self, parent: Prefix, number: PageNo, buddy: PageNo) -> Result<(), PagesFault>
+        requires there { number < length (pages self.old) }
+        requires buddy_there { buddy < length (pages self.old) }
+        requires apart { number ≢ buddy }
+        requires live { IfPage (pages self.old) number IsLive }
+        requires buddy_live { IfPage (pages self.old) buddy IsLive }
+        requires rising { IfPage (pages self.old) number (λ page. IfPage (pages self.old) buddy (λ other. IsRising (records_of page ++ records_of other))) }
+        requires taken { IfPage (pages self.old) number (λ page. IfPage (pages self.old) buddy (λ other. takes self.old (union parent page other))) }
+        requires sent_taken { IfPage (pages self.old) buddy (λ other. takes self.old (sent_to number other)) }
+        ensures ok { OnOk result (IfPage (pages self.old) number (λ page. IfPage (pages self.old) buddy (λ other. pages self.new ≡ slice_set (slice_set (pages self.old) number (union parent page other)) buddy (sent_to number other)))) }
         ensures err { OnErr result (pages self.new ≡ pages self.old) }
         ensures failures { CountsFaults result (failures self.old) (failures self.new) }
         ensures takes { TakesTheSame takes self.old self.new };

@@ -1,11 +1,11 @@
-ghost use Rattle.std.specs.Prelude.{◌≡◌, ◌^◌, ◌<◌, [], ◌∷◌, length, map, IfOk};
-ghost use Rattle.exh_codec.specs.PageImage.{page_digest};
+ghost use Rattle.std.specs.Prelude.{◌≡◌, ◌^◌, ◌<◌, [], ◌∷◌, length, IfOk};
 
 use crate::stored_page::StoredPage;
 use crate::{Pages, PagesFault};
-use exh_codec::{BLOCK_LEN, DIGEST_LEN};
-use exh_page::{Key, Page, PageHead, Spot, Value};
-use exh_prefix::PageNo;
+use exh_codec::{BLOCK_LEN, ReadPages, digest_in};
+use exh_keyer::Keyer;
+use exh_page::{Key, Lookup, Page, PageHead, PageList, Spot, Value};
+use exh_prefix::{PageNo, Prefix};
 use std::alloc::{AllocError, Global};
 use std::marker::Model;
 
@@ -48,24 +48,38 @@ impl PlainPages {
         }
         Ok(PlainPages { pages })
     }
+}
 
-    /// A store of these pages, in their order, each with the digest of its block. It takes memory: an
-    /// `AllocError` where that is refused.
-    pub fn of_read(
-        alloc: Global,
-        given: Vec<Page>,
-        digests: &[[u8; DIGEST_LEN]],
-    ) -> Result<PlainPages, AllocError>
-        requires few { length given.items < 2 ^ 32 }
-        requires digests { digests.now ≡ map page_digest given.items }
-        ensures { IfOk result (λ store. store ≡ given.items) }
-    {
-        let mut pages = Vec::with_capacity(alloc, given.len())?;
-        for page in given {
-            let digest = digests[pages.len()];
-            pages.push(StoredPage::with_digest(page, digest))?;
+impl PageList for PlainPages {
+    ghost pages = { λ store. store };
+
+    fn page_count(&self) -> usize {
+        self.pages.len()
+    }
+
+    fn head(&self, number: usize) -> PageHead {
+        self.pages[number].page().head()
+    }
+}
+
+/// Keeps each page with the digest of its block.
+impl<K: Keyer> ReadPages<K> for PlainPages {
+    ghost use Rattle.std.specs.Prelude.{⊤};
+
+    ghost takes = { λ _ _. ⊤ };
+
+    fn empty(alloc: Global, _keyer: K) -> PlainPages {
+        PlainPages {
+            pages: Vec::new(alloc),
         }
-        Ok(PlainPages { pages })
+    }
+
+    fn push(&mut self, block: &[u8; BLOCK_LEN], page: Page) -> Result<(), AllocError> {
+        let digest = digest_in(block);
+        self.pages.reserve(1)?;
+        self.pages
+            .push_reserved(StoredPage::with_digest(page, digest));
+        Ok(())
     }
 }
 
@@ -79,6 +93,8 @@ impl Pages for PlainPages {
     ghost failures = { λ _. 0 };
 
     ghost at_hand = { λ store number. number < length store };
+
+    ghost in_reach = { λ store number. number < length store };
 
     fn count(&self) -> PageNo {
         self.pages.len() as PageNo
@@ -110,15 +126,24 @@ impl Pages for PlainPages {
         self.pages[number as usize].page()
     }
 
+    // Each page is within reach.
+    fn reach(&mut self, _number: PageNo) -> Result<(), PagesFault> {
+        Ok(())
+    }
+
+    fn find(&self, number: PageNo, pseudokey: u64, key: &Key) -> Lookup<'_> {
+        self.pages[number as usize].page().look_up(pseudokey, key)
+    }
+
     fn put_at(
         &mut self,
         number: PageNo,
-        spot: Result<Spot, Spot>,
+        stood: Option<Spot>,
         pseudokey: u64,
         key: &Key,
         value: &Value,
     ) -> Result<(), PagesFault> {
-        Ok(self.pages[number as usize].put_at(spot, pseudokey, key, value)?)
+        Ok(self.pages[number as usize].put_at(stood, pseudokey, key, value)?)
     }
 
     fn remove_at(&mut self, number: PageNo, spot: Spot) -> Result<(), PagesFault> {
@@ -149,5 +174,24 @@ impl Pages for PlainPages {
         self.pages[number as usize] = StoredPage::new(page);
         self.pages.push_reserved(StoredPage::new(new));
         Ok(())
+    }
+
+    fn split_into(&mut self, number: PageNo, right: PageNo) -> Result<(), PagesFault> {
+        let page = self.pages[number as usize].page();
+        let (left, twin) = (page.left_half(right)?, page.right_half()?);
+        self.set_two(number, left, right, twin)
+    }
+
+    fn split_off(&mut self, number: PageNo) -> Result<(), PagesFault> {
+        let page = self.pages[number as usize].page();
+        let (left, right) = (page.left_half(self.count())?, page.right_half()?);
+        self.grow_and_set(right, number, left)
+    }
+
+    fn merge(&mut self, parent: Prefix, number: PageNo, buddy: PageNo) -> Result<(), PagesFault> {
+        let other = self.pages[buddy as usize].page();
+        let union = self.pages[number as usize].page().union(parent, other)?;
+        let sent = other.sent_to(number);
+        self.set_two(number, union, buddy, sent)
     }
 }

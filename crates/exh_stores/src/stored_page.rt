@@ -2,7 +2,7 @@ ghost use Rattle.std.specs.Prelude.{◌≡◌, ◌<◌, ◌≤◌, length, remov
 ghost use Rattle.exh_page.specs.declared.page.TheConstants.{CAP_LIMIT};
 ghost use Rattle.exh_page.specs.Page.{IsLive, records_of, with_records};
 ghost use Rattle.exh_page.specs.Records.{with_record};
-ghost use Rattle.exh_page.specs.Search.{IsSought, IsSpot};
+ghost use Rattle.exh_page.specs.Search.{IsSpot, IsStood};
 ghost use Rattle.exh_codec.specs.declared.block.TheConstants.{CONTENT_LEN};
 ghost use Rattle.exh_codec.specs.Block.{sealed};
 ghost use Rattle.exh_codec.specs.PageImage.{IsHeld, content_of, page_digest};
@@ -56,22 +56,22 @@ impl StoredPage {
         &self.page
     }
 
-    /// Puts a record into the page in place, which is live, at the spot that a search of its records for
-    /// the key came to. Where memory is refused, an `AllocError`, the page is as before.
+    /// Puts a record of a key into the page in place, which is live: over the record that stands at a spot,
+    /// if it has one. Where memory is refused, an `AllocError`, the page is as before.
     pub(crate) fn put_at(
         &mut self,
-        spot: Result<Spot, Spot>,
+        stood: Option<Spot>,
         pseudokey: u64,
         key: &Key,
         value: &Value,
     ) -> Result<(), AllocError>
         requires live { IsLive self.old }
-        requires sought { IsSought (pseudokey, key.now) (records_of self.old) spot }
+        requires stood { IsStood (pseudokey, key.now) (records_of self.old) stood }
         ensures ok { OnOk result (self.new ≡ with_records (with_record (record { pseudokey = pseudokey; key = key.now; value = value.now }) (records_of self.old)) self.old) }
         ensures err { OnErr result (self.new ≡ self.old) }
     {
         self.digest = None;
-        self.page.put_at(spot, pseudokey, key, value)
+        self.page.put_at(stood, pseudokey, key, value)
     }
 
     /// Takes the record of a spot out of the page in place, which is live.

@@ -14,9 +14,9 @@ use Rattle.exh_legal.proofs.built_index.build_index.Goals.{then-not-begins-via-t
 pub returns-then-not-begins : goal.returns-then-not-begins
 returns-then-not-begins g c lows = elim c.then-not-begins.branch [
   | then-not-begins-via-then-not-begins w ↦
-      absurd (false≢true (sym w.if-not-begins.true ∙ c.begins.ensures.1 (subst (Begins c.args.ward) (sym c.low_bound_of-low.ensures.low) (lows.within c.loop-number.number c.page.result.now c.page.ensures))))
+      absurd (false≢true (sym w.if-not-begins.true ∙ c.begins.ensures.1 (subst (Begins c.args.ward) (sym (c.low_bound_of-low.ensures.low c.head.ensures.0 c.head.ensures.2)) (lows.within c.loop-number.number c.head.ensures.0 c.head.ensures.1))))
   | then-not-begins-via-else-not-begins+then-contains_key w ↦
-      shared_low_found c.args.ward _ c.loop-number.number c.loop-number.index.entries c.page.result.now c.loop-number.invariant.0 c.page.ensures c.low_bound_of-low.result c.low_bound_of-low.ensures.low (sym w.contains_key.ensures ∙ w.if-contains_key.true) lows
+      shared_low_found c.args.ward _ c.loop-number.number c.loop-number.index.entries c.head.ensures.0 c.loop-number.invariant.0 c.head.ensures.1 c.low_bound_of-low.result (c.low_bound_of-low.ensures.low c.head.ensures.0 c.head.ensures.2) (sym w.contains_key.ensures ∙ w.if-contains_key.true) lows
 ]
 
 pub loop-number-init : goal.loop-number-init
@@ -24,10 +24,10 @@ loop-number-init g c = (no_index c.args.ward (g.P.PageList.pages c.args.pages.no
 
 pub loop-number-preserved : goal.loop-number-preserved
 loop-number-preserved g c =
-    let same : low_bound c.page.result.now ≡ c.low_bound_of-low.result = sym c.low_bound_of-low.ensures.low in (
-      more_index c.args.ward _ c.loop-number.number c.loop-number.index.entries c.insert.new.self.entries c.page.result.now c.loop-number.invariant.0 c.page.ensures (subst (Begins c.args.ward) c.low_bound_of-low.ensures.low ((c.begins.ensures).0 c.if-not-begins.false))
-          (none_found c.loop-number.index.entries c.low_bound_of-low.result (low_bound c.page.result.now) (sym same) (sym c.contains_key.ensures ∙ c.if-contains_key.false)) (λ query. c.in_ok-insert.ensures.updates.0 query ∙ ap (λ key. cond (is_at (nat_cmp key) query) (Some c.loop-number.number) (page_number_at c.loop-number.index.entries query)) c.low_bound_of-low.ensures.low),
-      each_more IsBounded (g.P.PageList.pages c.args.pages.now) c.loop-number.number c.loop-number.invariant.1 c.page.result.now c.page.ensures c.low_bound_of-low.ensures.bounded,
+    let same : low_bound c.head.ensures.0 ≡ c.low_bound_of-low.result = sym (c.low_bound_of-low.ensures.low c.head.ensures.0 c.head.ensures.2) in (
+      more_index c.args.ward _ c.loop-number.number c.loop-number.index.entries c.insert.new.self.entries c.head.ensures.0 c.loop-number.invariant.0 c.head.ensures.1 (subst (Begins c.args.ward) (c.low_bound_of-low.ensures.low c.head.ensures.0 c.head.ensures.2) ((c.begins.ensures).0 c.if-not-begins.false))
+          (none_found c.loop-number.index.entries c.low_bound_of-low.result (low_bound c.head.ensures.0) (sym same) (sym c.contains_key.ensures ∙ c.if-contains_key.false)) (λ query. c.in_ok-insert.ensures.updates.0 query ∙ ap (λ key. cond (is_at (nat_cmp key) query) (Some c.loop-number.number) (page_number_at c.loop-number.index.entries query)) (c.low_bound_of-low.ensures.low c.head.ensures.0 c.head.ensures.2)),
+      each_more IsBounded (g.P.PageList.pages c.args.pages.now) c.loop-number.number c.loop-number.invariant.1 c.head.ensures.0 c.head.ensures.1 (c.low_bound_of-low.ensures.bounded c.head.ensures.0 c.head.ensures.2),
     )
 
 pub returns : goal.returns

@@ -13,11 +13,11 @@ pub returns-then-not-is_linked : goal.returns-then-not-is_linked
 returns-then-not-is_linked g c =
     let short : length c.args.ward ≤ LIMIT = omega (arith, c.len-bits.ensures.limit, c.len-bits.ensures.length) in (
       λ is. absurd (false≢true is),
-      λ links. absurd (false≢true (sym c.if-not-is_linked.true ∙ c.is_linked.ensures.1 (links_to short c.requires.lows c.requires.leaves c.requires.bounded c.args.index.now.entries c.requires.index links c.loop-number.number c.page.result.now c.page.ensures))),
+      λ links. absurd (false≢true (sym c.if-not-is_linked.true ∙ (c.is_linked.ensures c.head.ensures.0 c.head.ensures.2).1 (links_to short c.requires.lows c.requires.leaves c.requires.bounded c.args.index.now.entries c.requires.index links c.loop-number.number c.head.ensures.0 c.head.ensures.1))),
     )
 
 pub loop-number-preserved : goal.loop-number-preserved
-loop-number-preserved g c = each_more (IsLinkedBy c.args.index.now.entries) (g.P.PageList.pages c.args.pages.now) c.loop-number.number c.loop-number.invariant c.page.result.now c.page.ensures (c.is_linked.ensures.0 c.if-not-is_linked.false)
+loop-number-preserved g c = each_more (IsLinkedBy c.args.index.now.entries) (g.P.PageList.pages c.args.pages.now) c.loop-number.number c.loop-number.invariant c.head.ensures.0 c.head.ensures.1 ((c.is_linked.ensures c.head.ensures.0 c.head.ensures.2).0 c.if-not-is_linked.false)
 
 pub returns : goal.returns
 returns g c =

@@ -30,8 +30,8 @@ returns-in_default-copied g c =
           absurd (c.in_default-copied.not-Some own.told.0 (c.copied.ensures ∙ c.get.ensures.value ∙ some)),
     )
 
-pub page-requires : goal.page-requires
-page-requires g c =
+pub head-requires : goal.head-requires
+head-requires g c =
     let found = sym c.get.ensures.value ∙ sym c.copied.ensures ∙ c.in-Some-copied.is in
     let page = (c.requires c.low.result c.in-Some-copied.number).0 found in
     slice_get_within (g.P.PageList.pages c.args.pages.now) c.in-Some-copied.number page.0 page.1
@@ -42,6 +42,6 @@ returns g c =
     let at = c.low.ensures ∙ ap low_of (same_child c.child.result _ _ c.in-Some.child c.child.ensures c.in-Some.is) in
     let found = ap (page_number_at c.args.index.now.entries) (sym at) ∙ sym c.get.ensures.value ∙ sym c.copied.ensures ∙ c.in-Some-copied.is in
     let short = child_short_of c.child.result _ _ c.in-Some.child c.child.ensures c.in-Some.is in (
-      λ told. told_there pages c.args.index.now.entries c.requires c.args.ward c.args.prefix c.args.entry (c.is_ward_entry.ensures.0 c.if-not-is_ward_entry.false) short c.in-Some-copied.number c.page.result.now found c.page.ensures (c.is_told_by.ensures.0 told),
-      λ own. c.is_told_by.ensures.1 (there_told pages c.args.index.now.entries c.requires c.args.ward c.args.prefix c.args.entry own c.in-Some-copied.number c.page.result.now found c.page.ensures),
+      λ told. told_there pages c.args.index.now.entries c.requires c.args.ward c.args.prefix c.args.entry (c.is_ward_entry.ensures.0 c.if-not-is_ward_entry.false) short c.in-Some-copied.number c.head.ensures.0 found c.head.ensures.1 ((c.is_told_by.ensures c.head.ensures.0 c.head.ensures.2).0 told),
+      λ own. (c.is_told_by.ensures c.head.ensures.0 c.head.ensures.2).1 (there_told pages c.args.index.now.entries c.requires c.args.ward c.args.prefix c.args.entry own c.in-Some-copied.number c.head.ensures.0 found c.head.ensures.1),
     )
