@@ -1,11 +1,11 @@
 -- Look-ups in the entries of a cache.
-use Rattle.std.proofs.Common.{◌≡◌, ◌≢◌, ℕ, zero, suc, ◌-◌, Bool, true, false, cond, nat_eq, List, [], ◌∷◌, take, Option, Some, None, refl, sym, ap, ◌∙◌, inl, inr, IsSome, is_some, IfSome, ◌++◌}
+use Rattle.std.proofs.Common.{◌≡◌, ◌≢◌, ℕ, zero, suc, ◌-◌, Bool, true, false, cond, nat_eq, List, [], ◌∷◌, take, Option, Some, None, refl, sym, ap, ◌∙◌, inl, inr}
 use Rattle.std.specs.Cmp.{nat_eq_equiv}
 use Rattle.std.specs.List.{IsDistinct}
-use Rattle.std.specs.Map.{keys_of, lookup, lookup_entry, remove_entry, set_value, AreApart}
-use Rattle.std.specs.Option.{option_map, option_map_or, option_to_list}
+use Rattle.std.specs.Map.{keys_of, lookup, lookup_entry, remove_entry, AreApart}
+use Rattle.std.specs.Option.{option_map, option_map_or}
 use Rattle.std.proofs.lemmas.Bool.{cases_eq, eq-eqb, eqb-true}
-use Rattle.std.proofs.lemmas.Map.{lookup-set_value, lookup-remove_entry}
+use Rattle.std.proofs.lemmas.Map.{lookup-remove_entry}
 use Rattle.lru.specs.LruCache.{LruCache, put_entries, promoted}
 use Rattle.lru.proofs.CallerLemmas.{Contains-lookup_entry}
 use Rattle.lru.proofs.Pairs.{lookup-lookup_entry}
@@ -75,54 +75,6 @@ module _ {V : Type 0} where
     pub others-put : (other : ℕ) (found : V) → other ≢ number → lookup (nat_eq other) (put_entries nat_eq cache number value) ≡ Some found → lookup (nat_eq other) cache.entries ≡ Some found
     others-put other found differ is = put_entry other found (lookup_entry (nat_eq number) cache.entries) differ refl is
 
-  -- ---- an entry that stands before the others
-
-  -- others that are found alike are found alike behind it
-  pub alike_behind : (test : ℕ → Bool) (held : Option (ℕ × V)) (one other : List (ℕ × V)) → lookup test one ≡ lookup test other → lookup test (option_to_list held ++ one) ≡ lookup test (option_to_list held ++ other)
-  alike_behind test None one other same = same
-  alike_behind test (Some e) one other same = ap (λ (found : Option V). cond (test e.0) (Some e.1) found) same
-
-  -- one that is none of the others hides none of them
-  pub seen_behind : (number : ℕ) (held : Option (ℕ × V)) (es : List (ℕ × V)) (found : V) → IfSome held (λ e. lookup (nat_eq e.0) es ≡ None) → lookup (nat_eq number) es ≡ Some found
-      → lookup (nat_eq number) (option_to_list held ++ es) ≡ Some found
-  seen_behind number None es found apart is = is
-  seen_behind number (Some e) es found apart is = elim (nat_eq number e.0) as (λ b. nat_eq number e.0 ≡ b → cond b (Some e.1) (lookup (nat_eq number) es) ≡ Some found) [
-    | true ↦ λ here. let none : lookup (nat_eq number) es ≡ None = ap (λ (n : ℕ). lookup (nat_eq n) es) (eqb-true number e.0 here) ∙ apart in let some = is in cc
-    | false ↦ λ _. is
-  ] refl
-
-  pub aside_promoted : (number : ℕ) (held : Option (ℕ × V)) (es : List (ℕ × V)) → IfSome held (λ e. lookup (nat_eq e.0) es ≡ None) → IfSome held (λ e. lookup (nat_eq e.0) (promoted (nat_eq number) es) ≡ None)
-  aside_promoted number None es apart = tt
-  aside_promoted number (Some e) es apart = lookup-promoted es number e.0 ∙ apart
-
-  pub first_is : (number : ℕ) (value : V) (e : ℕ × V) (es : List (ℕ × V)) → e ≡ (number, value) → lookup (nat_eq number) (e ∷ es) ≡ Some value
-  first_is number value e es is = ap (λ (e : ℕ × V). lookup (nat_eq number) (e ∷ es)) is ∙ lookup_first (nat_eq number) (number, value) es true (eq-eqb number number refl)
-
-  pub first_isnt : (number : ℕ) (value : V) (other : ℕ) (e : ℕ × V) (es : List (ℕ × V)) → other ≢ number → e ≡ (number, value) → lookup (nat_eq other) (e ∷ es) ≡ lookup (nat_eq other) es
-  first_isnt number value other e es differ is =
-      ap (λ (e : ℕ × V). lookup (nat_eq other) (e ∷ es)) is ∙ lookup_first (nat_eq other) (number, value) es false (apart number other differ number (eq-eqb number number refl))
-
-  pub none_there : (found : Option V) → (IsSome found → ⊥) → found ≡ None
-  none_there None not = refl
-  none_there (Some value) not = absurd (not refl)
-
-  -- ---- an entry that is written in place
-
-  module _ (es : List (ℕ × V)) (number : ℕ) (old new : V) (there : lookup (nat_eq number) es ≡ Some old) where
-    written : (other : ℕ) → lookup (nat_eq other) (set_value (nat_eq number) es new) ≡ cond (nat_eq number other) (Some new) (lookup (nat_eq other) es)
-    written other = lookup-set_value nat_eq_equiv (nat_eq number) (λ x y same. nat_eq_equiv.congr number x y same) other new es (ap is_some there)
-
-    pub written_same : lookup (nat_eq number) (set_value (nat_eq number) es new) ≡ Some new
-    written_same = written number ∙ ap (λ b. cond b (Some new) (lookup (nat_eq number) es)) (eq-eqb number number refl)
-
-    pub written_other : (other : ℕ) → other ≢ number → lookup (nat_eq other) (set_value (nat_eq number) es new) ≡ lookup (nat_eq other) es
-    written_other other differ = written other ∙ ap (λ b. cond b (Some new) (lookup (nat_eq other) es)) (apart other number (λ same. differ (sym same)) other (eq-eqb other other refl))
-
-    -- what stands before the others is none of them still
-    pub aside_written : (held : Option (ℕ × V)) → IfSome held (λ e. lookup (nat_eq e.0) es ≡ None) → IfSome held (λ e. lookup (nat_eq e.0) (set_value (nat_eq number) es new) ≡ None)
-    aside_written None apart = tt
-    aside_written (Some e) apart = written_other e.0 (λ same. let none : lookup (nat_eq number) es ≡ None = ap (λ (n : ℕ). lookup (nat_eq n) es) (sym same) ∙ apart in cc) ∙ apart
-
   -- ---- an entry that is taken out
 
   pub removed_same : (es : List (ℕ × V)) (number : ℕ) → IsDistinct nat_eq (keys_of es) → lookup (nat_eq number) (remove_entry (nat_eq number) es) ≡ None
@@ -132,11 +84,3 @@ module _ {V : Type 0} where
 
   pub removed_other : (es : List (ℕ × V)) (number other : ℕ) → other ≢ number → lookup (nat_eq other) (remove_entry (nat_eq number) es) ≡ lookup (nat_eq other) es
   removed_other es number other differ = lookup-removed (nat_eq number) (nat_eq other) (apart number other differ) es
-
-  -- one that is none of those that are left
-  pub aside_removed : (number : ℕ) (held : Option (ℕ × V)) (es : List (ℕ × V)) → IsDistinct nat_eq (keys_of es) → IfSome held (λ e. lookup (nat_eq e.0) es ≡ None) → IfSome held (λ e. lookup (nat_eq e.0) (remove_entry (nat_eq number) es) ≡ None)
-  aside_removed number None es distinct apart = tt
-  aside_removed number (Some e) es distinct apart = elim (cases_eq e.0 number) [
-    | inl same ↦ ap (λ (n : ℕ). lookup (nat_eq n) (remove_entry (nat_eq number) es)) same ∙ removed_same es number distinct
-    | inr differ ↦ removed_other es number e.0 differ ∙ apart
-  ]

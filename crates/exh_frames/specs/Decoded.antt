@@ -1,5 +1,5 @@
 -- Decoded pages, as pairs of a number and a page.
-use Rattle.std.specs.Prelude.{◌≡◌, ℕ, nat_eq, List, slice_get, Option, Some, None, IfSome}
+use Rattle.std.specs.Prelude.{◌≡◌, ℕ, nat_eq, List, slice_get, Option, Some}
 use Rattle.std.specs.Map.{lookup}
 use Rattle.exh_page.specs.declared.page.Page.{Page}
 
@@ -9,10 +9,6 @@ Decoded = List (ℕ × Page)
 -- the decoded page of a number
 abbrev pub decoded_at : ℕ → Decoded → Option Page
 decoded_at number decoded = lookup (nat_eq number) decoded
-
--- a page that stands by itself is none of the others
-abbrev pub IsAside : Option (ℕ × Page) → Decoded → Type 0
-IsAside held decoded = IfSome held (λ pair. decoded_at pair.0 decoded ≡ None)
 
 -- each decoded page is the page of its number
 abbrev pub AreOf : List Page → Decoded → Type 0

@@ -1,5 +1,5 @@
 -- The one failure of a store that fails on purpose, over a store that has a count of its own.
-use Rattle.std.specs.Prelude.{⊤, ℕ, zero, suc, ◌+◌, ◌-◌, ◌^◌, ◌<◌, Bool, cond, false, ltb, min, Option, Some, None, Result, Ok, Err}
+use Rattle.std.specs.Prelude.{◌≡◌, ◌⊎◌, ℕ, zero, suc, ◌+◌, ◌-◌, ◌^◌, ◌<◌, Bool, cond, false, ltb, min, nat_le, IsTrue, Option, Some, None, Result, Ok, Err}
 use Rattle.exh_frames.specs.declared.failing_pages.Failure.{Failure}
 use Rattle.exh_frames.specs.declared.failing_pages.Failure.TheVariants.{After, Past, Never}
 use Rattle.exh_frames.specs.declared.pages_call.PagesCall.{PagesCall}
@@ -41,17 +41,22 @@ count_with (After before) count = count
 count_with (Past failed) count = min (count + 1) greatest
 count_with Never count = count
 
--- the count may rise by one more of the store inside
-abbrev pub HasRoom : Failure → ℕ → Type 0
-HasRoom (After before) count = ⊤
-HasRoom (Past failed) count = count + 1 < greatest
-HasRoom Never count = ⊤
+-- whether the count, in which the store's own failure is, is the greatest, so that it can't rise
+abbrev pub is_spent : Failure → ℕ → Bool
+is_spent (After before) count = false
+is_spent (Past failed) count = nat_le greatest (count + 1)
+is_spent Never count = false
 
--- no page fault is answered
-abbrev pub IsFaultless : {T : Type 0} → Result T PagesFault → Type 0
-IsFaultless (Ok value) = ⊤
-IsFaultless (Err Memory) = ⊤
-IsFaultless (Err OutOfReach) = ⊥
+-- what becomes of a refusal of the store inside: a page fault by which the count can't rise is want of memory
+abbrev pub fault_by : Bool → PagesFault → PagesFault
+fault_by spent Memory = Memory
+fault_by spent OutOfReach = cond spent Memory OutOfReach
+
+-- what a call answers that doesn't fail by itself, with the count of the store inside before and after: a page fault is one of the store inside, which has counted it; where the count can't rise any more, so may want of memory be
+abbrev pub IsOfInner : {T : Type 0} → Result T PagesFault → Bool → ℕ → ℕ → Type 0
+IsOfInner (Ok value) spent old new = new ≡ old
+IsOfInner (Err Memory) spent old new = (new ≡ old) ⊎ (IsTrue spent × (old < new))
+IsOfInner (Err OutOfReach) spent old new = old < new
 
 -- what is seen of the store
 pub record FailingStore (S : Type 0) : Type 0 where

@@ -1,6 +1,4 @@
 pub mod CacheSize
-pub mod InPlace
-pub mod PageImages
 pub mod Decoded
 pub mod FramedStore
 pub mod Failure

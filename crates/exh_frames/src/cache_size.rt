@@ -47,7 +47,7 @@ impl From<AllocError> for CacheFault {
 
 // The size, where a cache may have it.
 pub(crate) fn to_cache_size(size: usize) -> Result<NonZeroUsize, CacheFault>
-    ensures size { IfOk result (λ found. non_zero_usize_get found ≡ size) }
+    ensures size { IfOk result (λ found. (non_zero_usize_get found ≡ size) × IsCacheSize size) }
     ensures fault { IsErrOf result CacheFault.Size ↔ (IsCacheSize size → ⊥) }
     ensures memory { IsErrOf result CacheFault.Memory → ⊥ }
 {

@@ -1,9 +1,10 @@
 ghost use Rattle.std.specs.Prelude.{◌≡◌, ◌↔◌, IfOk, IsErrOf};
+ghost use Rattle.std.specs.NonZero.{non_zero_usize_get};
 ghost use Rattle.exh_frames.specs.CacheSize.{IsCacheSize};
 
 use crate::cache_size::to_cache_size;
 use crate::{CacheFault, FramedPages};
-use exh_codec::DIGEST_LEN;
+use exh_images::Images;
 use exh_keyer::Keyer;
 use exh_page::Page;
 use exh_stores::StoreMaker;
@@ -13,7 +14,8 @@ use std::num::NonZeroUsize;
 /// Makes stores of images, each behind a cache of the same size.
 #[derive(Clone, Copy)]
 pub struct FramedMaker {
-    size: NonZeroUsize,
+    pub(crate) size: usize,
+    ghost in_range: { IsCacheSize size },
 }
 
 impl FramedMaker {
@@ -22,23 +24,29 @@ impl FramedMaker {
     pub fn new(cache_size: usize) -> Result<FramedMaker, CacheFault>
         ensures size { IsErrOf result CacheFault.Size ↔ (IsCacheSize cache_size → ⊥) }
     {
-        let size = to_cache_size(cache_size)?;
+        let size = to_cache_size(cache_size)?.get();
         Ok(FramedMaker { size })
+    }
+
+    // The size of a cache.
+    fn cache_size(self) -> NonZeroUsize
+        ensures { non_zero_usize_get result ≡ self.size }
+    {
+        match NonZeroUsize::new(self.size) {
+            Some(size) => size,
+            None => unreachable!(),
+        }
     }
 }
 
 impl<K: Keyer> StoreMaker<FramedPages<K>, K> for FramedMaker {
+    type Read = Images<K>;
+
     fn first(&self, alloc: Global, keyer: K, page: Page) -> Result<FramedPages<K>, AllocError> {
-        FramedPages::of_first(alloc, page, keyer, self.size)
+        FramedPages::of_first(alloc, page, keyer, self.cache_size())
     }
 
-    fn of_pages(
-        &self,
-        alloc: Global,
-        keyer: K,
-        given: Vec<Page>,
-        digests: &[[u8; DIGEST_LEN]],
-    ) -> Result<FramedPages<K>, AllocError> {
-        FramedPages::of_read(alloc, given, digests, keyer, self.size)
+    fn of_read(&self, alloc: Global, read: Images<K>) -> Result<FramedPages<K>, AllocError> {
+        FramedPages::of_images(alloc, read, self.cache_size())
     }
 }

@@ -1,10 +1,11 @@
-ghost use Rattle.std.specs.Prelude.{◌≡◌, ◌↔◌, ◌-◌, ◌<◌, ◌^◌, [], ◌∷◌, ◌++◌, length, map, remove, slice_set, IsSome, IfOk, OnOk, OnErr, IsErrOf};
+ghost use Rattle.std.specs.Prelude.{◌≡◌, ◌↔◌, ◌-◌, ◌<◌, ◌^◌, [], ◌∷◌, ◌++◌, length, remove, slice_set, IsSome, IfOk, OnOk, OnErr, IsErrOf};
 ghost use Rattle.std.specs.List.{AllByRecursion};
 ghost use Rattle.exh_prefix.specs.Layout.{written_version};
-ghost use Rattle.exh_codec.specs.PageImage.{IsImage, page_digest};
-ghost use Rattle.exh_page.specs.Page.{IsLive, IsWellFormed, records_of, with_records};
-ghost use Rattle.exh_page.specs.Records.{with_record};
-ghost use Rattle.exh_page.specs.Search.{IsSought, IsSpot};
+ghost use Rattle.exh_codec.specs.PageImage.{IsImage};
+ghost use Rattle.exh_page.specs.Halves.{left_half, right_half, sent_to, union};
+ghost use Rattle.exh_page.specs.Page.{IsDivisible, IsLive, IsWellFormed, records_of, with_records};
+ghost use Rattle.exh_page.specs.Records.{IsRising, with_record};
+ghost use Rattle.exh_page.specs.Search.{IsSpot, IsStood};
 ghost use Rattle.exh_stores.specs.PageStore.{IfPage};
 ghost use Rattle.exh_frames.specs.CacheSize.{IsCacheSize};
 ghost use Rattle.exh_frames.specs.Decoded.{decoded_at};
@@ -12,11 +13,11 @@ ghost use Rattle.exh_frames.specs.Decoded.{decoded_at};
 use crate::CacheFault;
 use crate::cache_size::to_cache_size;
 use crate::decoded_pages::DecodedPages;
-use crate::images::Images;
-use exh_codec::{BLOCK_LEN, DIGEST_LEN};
+use exh_codec::BLOCK_LEN;
+use exh_images::Images;
 use exh_keyer::Keyer;
-use exh_page::{Key, Page, PageHead, Record, Spot, Value};
-use exh_prefix::PageNo;
+use exh_page::{Key, Lookup, Page, PageHead, Spot, Value};
+use exh_prefix::{PageNo, Prefix};
 use exh_stores::{Pages, PagesFault};
 use std::alloc::{AllocError, Global};
 use std::marker::Model;
@@ -116,25 +117,8 @@ impl<K: Keyer> FramedPages<K> {
         FramedPages::of_images(alloc, images, size)
     }
 
-    // A store of given pages, each with the digest of its block.
-    pub(crate) fn of_read(
-        alloc: Global,
-        given: Vec<Page>,
-        digests: &[[u8; DIGEST_LEN]],
-        keyer: K,
-        size: NonZeroUsize,
-    ) -> Result<FramedPages<K>, AllocError>
-        requires few { length given.items < 2 ^ 32 }
-        requires formed { AllByRecursion (IsWellFormed (K.pseudokey_of keyer)) given.items }
-        requires digests { digests.now ≡ map page_digest given.items }
-        ensures { IfOk result (λ store. store ≡ record { keyer = keyer; pages = given.items; decoded = [] }) }
-    {
-        let images = Images::of_read(alloc, keyer, &given, digests)?;
-        FramedPages::of_images(alloc, images, size)
-    }
-
     // A store of images, none of which is decoded yet.
-    fn of_images(
+    pub(crate) fn of_images(
         alloc: Global,
         images: Images<K>,
         size: NonZeroUsize,
@@ -145,82 +129,31 @@ impl<K: Keyer> FramedPages<K> {
         Ok(FramedPages { images, decoded })
     }
 
-    // Puts a page in place of the one of this number, in its image and among the decoded ones.
-    fn write(&mut self, number: PageNo, page: Page)
+    // Puts a page in place of the one of this number, which is then decoded no more.
+    fn write(&mut self, number: PageNo, page: &Page)
         requires there { number < length self.old.pages }
-        requires formed { IsWellFormed (K.pseudokey_of self.old.keyer) page }
+        requires formed { IsWellFormed (K.pseudokey_of self.old.keyer) page.now }
         ensures keyer { self.new.keyer ≡ self.old.keyer }
-        ensures pages { self.new.pages ≡ slice_set self.old.pages number page }
+        ensures pages { self.new.pages ≡ slice_set self.old.pages number page.now }
     {
-        self.images.set(number, &page);
-        self.decoded.keep(number, page);
-    }
-
-    // Puts a record into a page that is at hand. Where the decoded page finds no memory for it, that is
-    // let go.
-    fn put_at_hand(
-        &mut self,
-        number: PageNo,
-        spot: Result<Spot, Spot>,
-        pseudokey: u64,
-        key: &Key,
-        value: &Value,
-    )
-        requires there { IsSome (decoded_at number self.old.decoded) }
-        requires live { IfPage self.old.pages number IsLive }
-        requires sought { IfPage self.old.pages number (λ page. IsSought (pseudokey, key.now) (records_of page) spot) }
-        requires formed { IfPage self.old.pages number (λ page. IsWellFormed (K.pseudokey_of self.old.keyer) (with_records (with_record (record { pseudokey = pseudokey; key = key.now; value = value.now }) (records_of page)) page)) }
-        ensures keyer { self.new.keyer ≡ self.old.keyer }
-        ensures pages { IfPage self.old.pages number (λ page. self.new.pages ≡ slice_set self.old.pages number (with_records (with_record (record { pseudokey = pseudokey; key = key.now; value = value.now }) (records_of page)) page)) }
-    {
-        let Some(page) = self.decoded.get(number) else {
-            unreachable!();
-        };
-        let item = Record {
-            pseudokey,
-            key: *key,
-            value: *value,
-        };
-        self.images.put(number, page, &item);
-        let Err(_) = self.decoded.put_at(number, spot, pseudokey, key, value) else {
-            return;
-        };
+        self.images.set(number, page);
         self.decoded.forget(number);
     }
 
-    // Takes the record of a spot out of a page that is at hand.
-    fn remove_at_hand(&mut self, number: PageNo, spot: Spot)
-        requires there { IsSome (decoded_at number self.old.decoded) }
-        requires live { IfPage self.old.pages number IsLive }
-        requires spot { IfPage self.old.pages number (λ page. (spot.index < length (records_of page)) × IsSpot (records_of page) spot) }
-        requires formed { IfPage self.old.pages number (λ page. IsWellFormed (K.pseudokey_of self.old.keyer) (with_records (remove (records_of page) spot.index) page)) }
-        ensures keyer { self.new.keyer ≡ self.old.keyer }
-        ensures pages { IfPage self.old.pages number (λ page. self.new.pages ≡ slice_set self.old.pages number (with_records (remove (records_of page) spot.index) page)) }
-    {
-        self.decoded.remove_at(number, spot);
-        match self.decoded.get(number) {
-            Some(page) => self.images.remove(number, page),
-            None => unreachable!(),
-        }
-    }
-
     // Adds a page. An `AllocError` where memory is refused, and its pages are as before.
-    fn add(&mut self, page: Page) -> Result<(), AllocError>
+    fn add(&mut self, page: &Page) -> Result<(), AllocError>
         requires room { length self.old.pages < 2 ^ 32 - 1 }
-        requires formed { IsWellFormed (K.pseudokey_of self.old.keyer) page }
+        requires formed { IsWellFormed (K.pseudokey_of self.old.keyer) page.now }
         ensures keyer { self.new.keyer ≡ self.old.keyer }
-        ensures ok { OnOk result (self.new.pages ≡ self.old.pages ++ page ∷ []) }
+        ensures ok { OnOk result (self.new.pages ≡ self.old.pages ++ page.now ∷ []) }
         ensures err { OnErr result (self.new.pages ≡ self.old.pages) }
     {
-        let number = self.images.count();
-        self.images.add(&page)?;
-        self.decoded.keep(number, page);
-        Ok(())
+        self.images.add(page)
     }
 }
 
 impl<K: Keyer> Pages for FramedPages<K> {
-    ghost use Rattle.std.specs.Prelude.{◌≢◌, ◌++◌, ◌∷◌, [], length, remove, slice_get, slice_set, Some, IsSome, IsOk, IfOk, OnErr};
+    ghost use Rattle.std.specs.Prelude.{◌≢◌, ◌++◌, ◌∷◌, [], length, remove, slice_get, slice_set, Some, IsSome, IsOk, IfOk, OnOk, OnErr, ◌<◌};
     ghost use Rattle.exh_stores.specs.PageStore.{CountsFaults, TakesTheSame};
     ghost use Rattle.exh_frames.specs.FramedStore.{FramedStore};
     ghost use Rattle.exh_frames.specs.Decoded.{decoded_at};
@@ -232,6 +165,8 @@ impl<K: Keyer> Pages for FramedPages<K> {
     ghost failures = { λ _. 0 };
 
     ghost at_hand = { λ store number. IsSome (decoded_at number store.decoded) };
+
+    ghost in_reach = { λ store number. number < length store.pages };
 
     fn count(&self) -> PageNo {
         self.images.count()
@@ -269,7 +204,7 @@ impl<K: Keyer> Pages for FramedPages<K> {
             return Ok(());
         }
         let page = self.images.page(number)?;
-        self.decoded.keep(number, page);
+        self.decoded.keep(number, page)?;
         Ok(())
     }
 
@@ -280,26 +215,35 @@ impl<K: Keyer> Pages for FramedPages<K> {
         }
     }
 
+    // Each image is within reach.
+    fn reach(&mut self, _number: PageNo) -> Result<(), PagesFault> {
+        Ok(())
+    }
+
+    fn find(&self, number: PageNo, _pseudokey: u64, key: &Key) -> Lookup<'_> {
+        self.images.find(number, key)
+    }
+
     fn put_at(
         &mut self,
         number: PageNo,
-        spot: Result<Spot, Spot>,
+        stood: Option<Spot>,
         pseudokey: u64,
         key: &Key,
         value: &Value,
     ) -> Result<(), PagesFault>
         requires there { number < length self.old.pages }
         requires live { IfPage self.old.pages number IsLive }
-        requires sought { IfPage self.old.pages number (λ page. IsSought (pseudokey, key.now) (records_of page) spot) }
+        requires stood { IfPage self.old.pages number (λ page. IsStood (pseudokey, key.now) (records_of page) stood) }
         requires taken { IfPage self.old.pages number (λ page. IsWellFormed (K.pseudokey_of self.old.keyer) (with_records (with_record (record { pseudokey = pseudokey; key = key.now; value = value.now }) (records_of page)) page)) }
         ensures ok { OnOk result (IfPage self.old.pages number (λ page. self.new.pages ≡ slice_set self.old.pages number (with_records (with_record (record { pseudokey = pseudokey; key = key.now; value = value.now }) (records_of page)) page))) }
         ensures err { OnErr result (self.new.pages ≡ self.old.pages) }
         ensures failures { CountsFaults result 0 0 }
         ensures takes { TakesTheSame (λ (store : FramedStore K) page. IsWellFormed (K.pseudokey_of store.keyer) page) self.old self.new }
-        ensures already { IsSome (decoded_at number self.old.decoded) → IsOk result }
+        ensures always { IsOk result }
     {
-        self.fetch(number)?;
-        self.put_at_hand(number, spot, pseudokey, key, value);
+        self.images.put(number, stood, pseudokey, key, value);
+        self.decoded.forget(number);
         Ok(())
     }
 
@@ -312,10 +256,10 @@ impl<K: Keyer> Pages for FramedPages<K> {
         ensures err { OnErr result (self.new.pages ≡ self.old.pages) }
         ensures failures { CountsFaults result 0 0 }
         ensures takes { TakesTheSame (λ (store : FramedStore K) page. IsWellFormed (K.pseudokey_of store.keyer) page) self.old self.new }
-        ensures already { IsSome (decoded_at number self.old.decoded) → IsOk result }
+        ensures always { IsOk result }
     {
-        self.fetch(number)?;
-        self.remove_at_hand(number, spot);
+        self.images.remove(number, spot);
+        self.decoded.forget(number);
         Ok(())
     }
 
@@ -328,7 +272,7 @@ impl<K: Keyer> Pages for FramedPages<K> {
         ensures takes { TakesTheSame (λ (store : FramedStore K) page. IsWellFormed (K.pseudokey_of store.keyer) page) self.old self.new }
         ensures always { IsOk result }
     {
-        self.write(number, page);
+        self.write(number, &page);
         Ok(())
     }
 
@@ -350,15 +294,61 @@ impl<K: Keyer> Pages for FramedPages<K> {
         ensures takes { TakesTheSame (λ (store : FramedStore K) page. IsWellFormed (K.pseudokey_of store.keyer) page) self.old self.new }
         ensures always { IsOk result }
     {
-        self.write(number, page);
-        self.write(other, twin);
+        self.write(number, &page);
+        self.write(other, &twin);
         Ok(())
     }
 
     fn grow_and_set(&mut self, new: Page, number: PageNo, page: Page) -> Result<(), PagesFault> {
         // The new image first: nothing may fail once a page has changed.
-        self.add(new)?;
-        self.write(number, page);
+        self.add(&new)?;
+        self.write(number, &page);
+        Ok(())
+    }
+
+    fn split_into(&mut self, number: PageNo, right: PageNo) -> Result<(), PagesFault>
+        requires there { number < length self.old.pages }
+        requires right_there { right < length self.old.pages }
+        requires apart { number ≢ right }
+        requires divisible { IfPage self.old.pages number IsDivisible }
+        requires taken { IfPage self.old.pages number (λ page. IsWellFormed (K.pseudokey_of self.old.keyer) (left_half right page)) }
+        requires right_taken { IfPage self.old.pages number (λ page. IsWellFormed (K.pseudokey_of self.old.keyer) (right_half page)) }
+        ensures ok { OnOk result (IfPage self.old.pages number (λ page. self.new.pages ≡ slice_set (slice_set self.old.pages number (left_half right page)) right (right_half page))) }
+        ensures err { OnErr result (self.new.pages ≡ self.old.pages) }
+        ensures failures { CountsFaults result 0 0 }
+        ensures takes { TakesTheSame (λ (store : FramedStore K) page. IsWellFormed (K.pseudokey_of store.keyer) page) self.old self.new }
+        ensures always { IsOk result }
+    {
+        self.images.split_into(number, right);
+        self.decoded.forget(number);
+        self.decoded.forget(right);
+        Ok(())
+    }
+
+    fn split_off(&mut self, number: PageNo) -> Result<(), PagesFault> {
+        self.images.split_off(number)?;
+        self.decoded.forget(number);
+        Ok(())
+    }
+
+    fn merge(&mut self, parent: Prefix, number: PageNo, buddy: PageNo) -> Result<(), PagesFault>
+        requires there { number < length self.old.pages }
+        requires buddy_there { buddy < length self.old.pages }
+        requires apart { number ≢ buddy }
+        requires live { IfPage self.old.pages number IsLive }
+        requires buddy_live { IfPage self.old.pages buddy IsLive }
+        requires rising { IfPage self.old.pages number (λ page. IfPage self.old.pages buddy (λ other. IsRising (records_of page ++ records_of other))) }
+        requires taken { IfPage self.old.pages number (λ page. IfPage self.old.pages buddy (λ other. IsWellFormed (K.pseudokey_of self.old.keyer) (union parent page other))) }
+        requires sent_taken { IfPage self.old.pages buddy (λ other. IsWellFormed (K.pseudokey_of self.old.keyer) (sent_to number other)) }
+        ensures ok { OnOk result (IfPage self.old.pages number (λ page. IfPage self.old.pages buddy (λ other. self.new.pages ≡ slice_set (slice_set self.old.pages number (union parent page other)) buddy (sent_to number other)))) }
+        ensures err { OnErr result (self.new.pages ≡ self.old.pages) }
+        ensures failures { CountsFaults result 0 0 }
+        ensures takes { TakesTheSame (λ (store : FramedStore K) page. IsWellFormed (K.pseudokey_of store.keyer) page) self.old self.new }
+        ensures always { IsOk result }
+    {
+        self.images.merge(parent, number, buddy);
+        self.decoded.forget(number);
+        self.decoded.forget(buddy);
         Ok(())
     }
 }

@@ -12,12 +12,8 @@ pub use stores::{FileStore, MAKER};
 
 mod cache_size;
 mod decoded_pages;
-mod edit;
 mod failing_pages;
 mod framed_maker;
 mod framed_pages;
-mod gap;
-mod image;
-mod images;
 mod pages_call;
 mod stores;

@@ -9,6 +9,8 @@ pub enum PagesCall {
     Block,
     /// `Pages::fetch`.
     Fetch,
+    /// `Pages::reach`.
+    Reach,
     /// `Pages::put_at`.
     Put,
     /// `Pages::remove_at`.
@@ -19,4 +21,10 @@ pub enum PagesCall {
     SetTwo,
     /// `Pages::grow_and_set`.
     GrowAndSet,
+    /// `Pages::split_into`.
+    SplitInto,
+    /// `Pages::split_off`.
+    SplitOff,
+    /// `Pages::merge`.
+    Merge,
 }

@@ -1,6 +1,6 @@
 use Rattle.std.proofs.Common.{[], ◌∷◌, List, set, ap, ◌∙◌}
 use Rattle.exh_page.specs.declared.page.Page.{Page}
-use Rattle.exh_frames.proofs.Kept.{set_front}
+use Rattle.exh_frames.proofs.Followed.{set_front}
 use Rattle.exh_frames.proofs.framed_pages.FramedPagesPages.grow_and_set.Goals as goal
 
 pub returns-clause-ok : goal.returns-clause-ok
