@@ -1,12 +1,13 @@
 //! A store of pages that is looked at.
-ghost use Rattle.std.specs.Prelude.{◌≡◌};
+ghost use Rattle.std.specs.Prelude.{◌≡◌, ◌<◌, length};
+ghost use Rattle.exh_stores.specs.PageStore.{CountsFaults, TakesTheSame};
 
 use crate::CAP;
 use crate::conductor::{Conductor, Count};
-use exh_codec::{BLOCK_LEN, DIGEST_LEN};
+use exh_codec::BLOCK_LEN;
 use exh_keyer::PlainKeyer;
-use exh_page::{Key, Page, PageHead, Spot, Value};
-use exh_prefix::PageNo;
+use exh_page::{Key, Lookup, Page, PageHead, Spot, Value};
+use exh_prefix::{PageNo, Prefix};
 use exh_stores::{Pages, PagesFault, StoreMaker};
 use std::alloc::{AllocError, Global};
 use std::cell::Cell;
@@ -91,6 +92,8 @@ impl<'a, P: Pages + Drop, M: StoreMaker<P, PlainKeyer>, R: Clock> StoreMaker<
     WatchedPages<'a, P, R>,
     PlainKeyer,
 > for WatchedMaker<'a, M, R> {
+    type Read = M::Read;
+
     fn first(
         &self,
         alloc: Global,
@@ -100,14 +103,8 @@ impl<'a, P: Pages + Drop, M: StoreMaker<P, PlainKeyer>, R: Clock> StoreMaker<
         Ok(self.watched(self.inner.first(alloc, keyer, page)?))
     }
 
-    fn of_pages(
-        &self,
-        alloc: Global,
-        keyer: PlainKeyer,
-        given: Vec<Page>,
-        digests: &[[u8; DIGEST_LEN]],
-    ) -> Result<WatchedPages<'a, P, R>, AllocError> {
-        Ok(self.watched(self.inner.of_pages(alloc, keyer, given, digests)?))
+    fn of_read(&self, alloc: Global, read: M::Read) -> Result<WatchedPages<'a, P, R>, AllocError> {
+        Ok(self.watched(self.inner.of_read(alloc, read)?))
     }
 }
 
@@ -134,17 +131,32 @@ fn look_on<R: Clock>(look: &mut Look, conductor: &Conductor<'_, R>, page: PageNo
 }
 
 impl<P: Pages + Drop, R: Clock> WatchedPages<'_, P, R> {
-    // Looks at two pages that are written at once. Where one is a forwarding page, they are a merge's, and
-    // the other has the records of both; a split that takes such a page's place writes two live ones.
-    fn see(&self, page: &Page, twin: &Page) {
-        if let (Look::Rests, Page::Live { records, .. }, Page::Forward { .. }) = (
-            self.look, page, twin,
-        ) {
-            if records.len() > CAP / 2 {
-                self.conductor.raise(IS_OVER, 1);
-            }
-            self.conductor.raise(HAS_MERGED, 1);
+    // Looks at two pages that are merged.
+    fn see(&mut self, number: PageNo, buddy: PageNo) -> Result<(), PagesFault>
+        requires there { number < length (P.pages (self.old).inner) }
+        requires buddy_there { buddy < length (P.pages (self.old).inner) }
+        ensures pages { P.pages (self.new).inner ≡ P.pages (self.old).inner }
+        ensures failures { CountsFaults result (P.failures (self.old).inner) (P.failures (self.new).inner) }
+        ensures takes { TakesTheSame P.takes (self.old).inner (self.new).inner }
+    {
+        let Look::Rests = self.look else {
+            return Ok(());
+        };
+        let left = count_of(self.inner.head(number)?);
+        let right = count_of(self.inner.head(buddy)?);
+        if left > CAP / 2 || right > CAP / 2 - left {
+            self.conductor.raise(IS_OVER, 1);
         }
+        self.conductor.raise(HAS_MERGED, 1);
+        Ok(())
+    }
+}
+
+// How many records a page has.
+fn count_of(page: PageHead) -> usize {
+    match page {
+        PageHead::Live { count, .. } => count,
+        PageHead::Forward { .. } => 0,
     }
 }
 
@@ -156,6 +168,8 @@ impl<P: Pages + Drop, R: Clock> Pages for WatchedPages<'_, P, R> {
     ghost failures = { λ store. P.failures store.inner };
 
     ghost at_hand = { λ store number. P.at_hand store.inner number };
+
+    ghost in_reach = { λ store number. P.in_reach store.inner number };
 
     fn count(&self) -> PageNo {
         self.inner.count()
@@ -187,15 +201,24 @@ impl<P: Pages + Drop, R: Clock> Pages for WatchedPages<'_, P, R> {
         self.inner.fetched(number)
     }
 
+    fn reach(&mut self, number: PageNo) -> Result<(), PagesFault> {
+        look_on(&mut self.look, self.conductor, number);
+        self.inner.reach(number)
+    }
+
+    fn find(&self, number: PageNo, pseudokey: u64, key: &Key) -> Lookup<'_> {
+        self.inner.find(number, pseudokey, key)
+    }
+
     fn put_at(
         &mut self,
         number: PageNo,
-        spot: Result<Spot, Spot>,
+        stood: Option<Spot>,
         pseudokey: u64,
         key: &Key,
         value: &Value,
     ) -> Result<(), PagesFault> {
-        self.inner.put_at(number, spot, pseudokey, key, value)
+        self.inner.put_at(number, stood, pseudokey, key, value)
     }
 
     fn remove_at(&mut self, number: PageNo, spot: Spot) -> Result<(), PagesFault> {
@@ -213,11 +236,23 @@ impl<P: Pages + Drop, R: Clock> Pages for WatchedPages<'_, P, R> {
         other: PageNo,
         twin: Page,
     ) -> Result<(), PagesFault> {
-        self.see(&page, &twin);
         self.inner.set_two(number, page, other, twin)
     }
 
     fn grow_and_set(&mut self, new: Page, number: PageNo, page: Page) -> Result<(), PagesFault> {
         self.inner.grow_and_set(new, number, page)
+    }
+
+    fn split_into(&mut self, number: PageNo, right: PageNo) -> Result<(), PagesFault> {
+        self.inner.split_into(number, right)
+    }
+
+    fn split_off(&mut self, number: PageNo) -> Result<(), PagesFault> {
+        self.inner.split_off(number)
+    }
+
+    fn merge(&mut self, parent: Prefix, number: PageNo, buddy: PageNo) -> Result<(), PagesFault> {
+        self.see(number, buddy)?;
+        self.inner.merge(parent, number, buddy)
     }
 }

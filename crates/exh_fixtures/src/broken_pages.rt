@@ -3,8 +3,8 @@ ghost use Rattle.std.specs.Prelude.{◌≡◌};
 ghost use Rattle.exh_stores.specs.PageStore.{CountsFaults};
 
 use exh_codec::BLOCK_LEN;
-use exh_page::{Key, Page, PageHead, Spot, Value};
-use exh_prefix::PageNo;
+use exh_page::{Key, Lookup, Page, PageHead, Spot, Value};
+use exh_prefix::{PageNo, Prefix};
 use exh_stores::{Pages, PagesFault, PlainPages};
 
 /// Pages in memory. Of the calls that answer a `Result` so many as are left are done, and each later one fails.
@@ -46,6 +46,8 @@ impl Pages for BrokenPages {
 
     ghost at_hand = { λ store number. number < length store.inner };
 
+    ghost in_reach = { λ store number. number < length store.inner };
+
     fn count(&self) -> PageNo {
         self.inner.count()
     }
@@ -78,16 +80,25 @@ impl Pages for BrokenPages {
         self.inner.fetched(number)
     }
 
+    fn reach(&mut self, number: PageNo) -> Result<(), PagesFault> {
+        self.enter()?;
+        self.inner.reach(number)
+    }
+
+    fn find(&self, number: PageNo, pseudokey: u64, key: &Key) -> Lookup<'_> {
+        self.inner.find(number, pseudokey, key)
+    }
+
     fn put_at(
         &mut self,
         number: PageNo,
-        spot: Result<Spot, Spot>,
+        stood: Option<Spot>,
         pseudokey: u64,
         key: &Key,
         value: &Value,
     ) -> Result<(), PagesFault> {
         self.enter()?;
-        self.inner.put_at(number, spot, pseudokey, key, value)
+        self.inner.put_at(number, stood, pseudokey, key, value)
     }
 
     fn remove_at(&mut self, number: PageNo, spot: Spot) -> Result<(), PagesFault> {
@@ -114,5 +125,20 @@ impl Pages for BrokenPages {
     fn grow_and_set(&mut self, new: Page, number: PageNo, page: Page) -> Result<(), PagesFault> {
         self.enter()?;
         self.inner.grow_and_set(new, number, page)
+    }
+
+    fn split_into(&mut self, number: PageNo, right: PageNo) -> Result<(), PagesFault> {
+        self.enter()?;
+        self.inner.split_into(number, right)
+    }
+
+    fn split_off(&mut self, number: PageNo) -> Result<(), PagesFault> {
+        self.enter()?;
+        self.inner.split_off(number)
+    }
+
+    fn merge(&mut self, parent: Prefix, number: PageNo, buddy: PageNo) -> Result<(), PagesFault> {
+        self.enter()?;
+        self.inner.merge(parent, number, buddy)
     }
 }

@@ -11,7 +11,7 @@ use Rattle.exh_page.specs.declared.page.Page.TheVariants.{Live}
 use Rattle.exh_page.specs.declared.record.Record.{Record}
 use Rattle.exh_page.specs.Page.{records_of, with_records}
 use Rattle.exh_page.specs.Records.{value_at}
-use Rattle.exh_page.specs.Search.{IsSought}
+use Rattle.exh_page.specs.Search.{IsStood}
 use Rattle.exh_legal.specs.LegalLaws.{PagesAreFew}
 use Rattle.exh_legal.specs.Pages.{map_of, IsAt}
 use Rattle.exh_calls.specs.Call.{key_of}
@@ -92,12 +92,12 @@ module _ {K : Type 0} {pseudo : List ℕ → ℕ} {takes : Page → Type 0} {own
   there_is other is = one_there w.pages at other page is answers.home.there
 
   -- what was seen is what the page has
-  pub sought_there : (key : List ℕ) → key ≡ key_of call → (other : Page) → IsAt w.pages at other → IsSought (pseudokey, key) (records_of other) seen.spot
-  sought_there key same other is =
-      let P : ℕ → Type 0 = λ k. IsSought (k, key_of call) answers.records seen.spot in
-      let Q : Page → Type 0 = λ other. IsSought (pseudokey, key_of call) (records_of other) seen.spot in
-      let R : List ℕ → Type 0 = λ key. IsSought (pseudokey, key) (records_of other) seen.spot in
-      subst R (sym same) (subst Q (sym (there_is other is)) (subst P (sym answers.hashed) answers.seen_is.sought))
+  pub spot_there : (key : List ℕ) → key ≡ key_of call → (other : Page) → IsAt w.pages at other → IsStood (pseudokey, key) (records_of other) seen.spot
+  spot_there key same other is =
+      let P : ℕ → Type 0 = λ k. IsStood (k, key_of call) answers.records seen.spot in
+      let Q : Page → Type 0 = λ other. IsStood (pseudokey, key_of call) (records_of other) seen.spot in
+      let R : List ℕ → Type 0 = λ key. IsStood (pseudokey, key) (records_of other) seen.spot in
+      subst R (sym same) (subst Q (sym (there_is other is)) (subst P (sym answers.hashed) answers.seen_is.spot))
 
   stood_there : (other : Page) → IsAt w.pages at other → seen.stood ≡ value_at (pseudokey, key_of call) (records_of other)
   stood_there other is =

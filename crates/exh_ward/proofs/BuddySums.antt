@@ -13,7 +13,7 @@ use Rattle.exh_page.specs.PageHead.{head_of}
 use Rattle.exh_legal.specs.LeftHalf.{IsLeftHalf}
 use Rattle.exh_legal.specs.HalvesFault.{NoLeftHalf}
 use Rattle.exh_legal.specs.declared.halves_fault.HalvesFault.{HalvesFault}
-use Rattle.exh_legal.specs.declared.halves_fault.HalvesFault.TheVariants.{NotLive, NotFull, AtLimit, NoBuddy, BuddySplit, TooMany, Memory}
+use Rattle.exh_legal.specs.declared.halves_fault.HalvesFault.TheVariants.{NotLive, NotFull, AtLimit, NoBuddy, BuddySplit, TooMany}
 use Rattle.exh_legal.specs.declared.left_half.LeftHalf.{LeftHalf}
 use Rattle.exh_legal.specs.LegalLaws.{LeftChildrenLinkToSiblings}
 use Rattle.exh_legal.specs.PageIndex.{IndexMap}
@@ -41,7 +41,6 @@ module _ {K : Type 0} {pseudo : List ℕ → ℕ} {takes : Page → Type 0} {own
       ]
   is_half prefix link count inner BuddySplit refused = refused
   is_half prefix link count inner (TooMany sum) refused = refused
-  is_half prefix link count inner Memory refused = refused
 
   module _ {page : PageHead} (there : HasHead w.pages at page) where
     pub none_here : (fault : HalvesFault) → NoLeftHalf own page fault → (sum : ℕ) → HasBuddySum w at sum → ⊥

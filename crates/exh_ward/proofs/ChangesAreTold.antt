@@ -25,7 +25,7 @@ use Rattle.exh_legal.specs.Pages.{IsAt, bare}
 use Rattle.exh_legal.specs.LegalPlaceLemmas.{page_full, page_bare}
 use Rattle.exh_ward.specs.WardKept.{IsKeptWard}
 use Rattle.exh_legal.specs.PageIndex.{IndexMap, IsIndexOf}
-use Rattle.exh_ward.specs.Told.{IsChangedTo, IsNextNotice, IsTold}
+use Rattle.exh_ward.specs.Told.{IsChangedTo, IsNextNotice, IsTold, MayChange}
 use Rattle.exh_ward.specs.WardFault.{IsStoreFault, IsTakingFault, IsTellingFault, SplitRefused}
 use Rattle.exh_ward.specs.WardState.{WardState, IsSound, own_prefix}
 use Rattle.exh_ward.specs.declared.ward_fault.WardFault.{WardFault}
@@ -313,3 +313,14 @@ absent index pages low indexed alone =
       | None ↦ λ is. refl
       | Some number ↦ λ is. let page = page_full pages low number ((indexed low number).0 is).1 in absurd (alone number page.0 page.1 page.2)
     ] refl
+
+-- a change that may be made, where the ward is as it is seen
+pub may_change : {K : Type 0} (pseudokey_of : K → List ℕ → ℕ) {w now : WardState K} → w ≡ now → {number other : ℕ} {prefix : List Bool} {kind : Kind} → MayChange (pseudokey_of now.keyer) now number other prefix kind → MayChange (pseudokey_of w.keyer) w number other prefix kind
+may_change {K = K} pseudokey_of seen {number = number} {other = other} {prefix = prefix} {kind = kind} may =
+    let P : WardState K → Type 0 = λ w. MayChange (pseudokey_of w.keyer) w number other prefix kind in
+    subst P (sym seen) may
+
+-- what holds of the pages at two numbers
+pub both_are : (pages : List Page) (number other : ℕ) (page twin : Page) (P : Page → Page → Type 0) → IsAt pages number page → IsAt pages other twin → P page twin → (one : Page) → IsAt pages number one → (two : Page) → IsAt pages other two → P one two
+both_are pages number other page twin P is twin_is holds one one_is two two_is =
+    subst (λ one. P one two) (sym (one_there pages number one page one_is is)) (subst (P page) (sym (one_there pages other two twin two_is twin_is)) holds)

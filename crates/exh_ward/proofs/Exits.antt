@@ -15,7 +15,7 @@ use Rattle.exh_legal.specs.Pages.{IsAt}
 use Rattle.exh_legal.specs.ChangeNumbers.{next_notice}
 use Rattle.exh_calls.specs.declared.journal_entry.JournalEntry.{JournalEntry}
 use Rattle.exh_legal.specs.declared.halves_fault.HalvesFault.{HalvesFault}
-use Rattle.exh_legal.specs.declared.halves_fault.HalvesFault.TheVariants.{NotLive as SendsOn, NotFull as HasRoom, AtLimit as TooDeep, NoBuddy as NoLeftHalf, BuddySplit as NotBeside, TooMany as Together, Memory as NoMemory}
+use Rattle.exh_legal.specs.declared.halves_fault.HalvesFault.TheVariants.{NotLive as SendsOn, NotFull as HasRoom, AtLimit as TooDeep, NoBuddy as NoLeftHalf, BuddySplit as NotBeside, TooMany as Together}
 use Rattle.exh_ward.specs.Told.{IsTold}
 use Rattle.exh_ward.specs.WardFault.{CountsFailures, IsStoreFault, IsTakingFault, IsTellingFault, MergeRefused, PageRefused, fault_of, fault_of_halves}
 use Rattle.exh_ward.specs.WardState.{WardState}
@@ -59,7 +59,6 @@ none_counted T TooDeep old new same = same
 none_counted T NoLeftHalf old new same = same
 none_counted T NotBeside old new same = same
 none_counted T (Together sum) old new same = same
-none_counted T NoMemory old new same = same
 
 -- ---- what a table that is told refuses
 

@@ -1,5 +1,5 @@
--- What the halves of a page are to the ward.
-use Rattle.std.proofs.Common.{◌≡◌, ℕ, ◌<◌, ◌%◌, inl, inr, Bool, true, List, [], ◌∷◌, ◌++◌, length, Option, None, Some, Result, Ok, Err, IfErr, IsErrAnd, sym, ◌∙◌, subst, arith}
+-- What the test of a page that is to be split is to the ward.
+use Rattle.std.proofs.Common.{◌≡◌, ℕ, ◌<◌, ◌%◌, inl, inr, Bool, true, List, [], ◌∷◌, ◌++◌, length, Option, None, Some, Result, Ok, Err, IfErr, IsErrAnd, sym, ap, ◌∙◌, subst, arith}
 use Rattle.std.specs.FinMap as fin
 use Rattle.std.specs.Option.{MatchOption}
 use Rattle.std.proofs.lemmas.Bool.{cases_eq}
@@ -8,6 +8,9 @@ use Rattle.exh_prefix.specs.Prefix.{low_of}
 use Rattle.exh_page.specs.declared.page.Page.{Page}
 use Rattle.exh_page.specs.declared.page.Page.TheVariants.{Live, Forward}
 use Rattle.exh_page.specs.Page.{IsLive, low_bound}
+use Rattle.exh_page.specs.PageHead.{head_of}
+use Rattle.exh_page.specs.declared.page_head.PageHead.{PageHead}
+use Rattle.exh_stores.specs.PageStore.{HasHead}
 use Rattle.exh_legal.specs.BareLemmas.{bare_at}
 use Rattle.exh_legal.specs.Change.{IsForwardOf}
 use Rattle.exh_legal.specs.Growth.{IsLiveAt}
@@ -18,14 +21,18 @@ use Rattle.exh_legal.specs.LegalPlaceLemmas.{page_full, page_bare}
 use Rattle.exh_ward.specs.WardKept.{IsKeptWard}
 use Rattle.exh_legal.specs.PageIndex.{IndexMap}
 use Rattle.exh_legal.specs.HalvesFault.{NotHalved}
+use Rattle.exh_legal.specs.HalvedPrefix.{IsHalvable}
+use Rattle.exh_ward.specs.SplitStep.{IsHalved}
+use Rattle.exh_ward.proofs.Heads.{headed}
 use Rattle.exh_legal.specs.declared.halves_fault.HalvesFault.{HalvesFault}
-use Rattle.exh_legal.specs.declared.halves_fault.HalvesFault.TheVariants.{NotLive, NotFull, AtLimit, NoBuddy, BuddySplit, TooMany, Memory}
+use Rattle.exh_legal.specs.declared.halves_fault.HalvesFault.TheVariants.{NotLive, NotFull, AtLimit, NoBuddy, BuddySplit, TooMany}
 use Rattle.exh_ward.specs.WardFault.{SplitRefusedAt, SplitRefused, fault_of_halves}
 use Rattle.exh_ward.specs.WardState.{WardState, own_prefix}
 use Rattle.exh_ward.specs.declared.ward_fault.WardFault.{WardFault}
 
-refused_here : (fault : HalvesFault) (cap : ℕ) (page : Page) → NotHalved cap page fault → SplitRefusedAt cap page (fault_of_halves fault)
-refused_here NotLive cap page refused = refused
+refused_here : (fault : HalvesFault) (cap : ℕ) (page : Page) → NotHalved cap (head_of page) fault → SplitRefusedAt cap page (fault_of_halves fault)
+refused_here NotLive cap (Live prefix link records) refused = refused
+refused_here NotLive cap (Forward low target) refused = refused
 refused_here NotFull cap (Live prefix link records) refused = refused
 refused_here NotFull cap (Forward low target) refused = absurd refused
 refused_here AtLimit cap (Live prefix link records) refused = refused
@@ -33,17 +40,29 @@ refused_here AtLimit cap (Forward low target) refused = absurd refused
 refused_here NoBuddy cap page refused = absurd refused
 refused_here BuddySplit cap page refused = absurd refused
 refused_here (TooMany sum) cap page refused = absurd refused
-refused_here Memory cap page refused = tt
 
--- what refuses halves of a page refuses a split
-pub refused_in : (fault : HalvesFault) (cap : ℕ) (pages : List Page) (at : ℕ) (page : Page) → IsAt pages at page → NotHalved cap page fault → SplitRefused cap pages at (fault_of_halves fault)
-refused_in NotLive cap pages at page is refused = (page, is, refused_here NotLive cap page refused)
-refused_in NotFull cap pages at page is refused = (page, is, refused_here NotFull cap page refused)
-refused_in AtLimit cap pages at page is refused = (page, is, refused_here AtLimit cap page refused)
-refused_in NoBuddy cap pages at page is refused = absurd refused
-refused_in BuddySplit cap pages at page is refused = absurd refused
-refused_in (TooMany sum) cap pages at page is refused = absurd refused
-refused_in Memory cap pages at page is refused = tt
+-- what refuses to halve a page of a head refuses a split
+pub refused_in : (fault : HalvesFault) (cap : ℕ) (pages : List Page) (at : ℕ) (head : PageHead) → HasHead pages at head → NotHalved cap head fault → SplitRefused cap pages at (fault_of_halves fault)
+refused_in fault cap pages at head (page, is, headed) refused = refused_at fault cap pages at page is (subst (λ head. NotHalved cap head fault) headed refused) where
+  refused_at : (fault : HalvesFault) (cap : ℕ) (pages : List Page) (at : ℕ) (page : Page) → IsAt pages at page → NotHalved cap (head_of page) fault → SplitRefused cap pages at (fault_of_halves fault)
+  refused_at NotLive cap pages at page is refused = (page, is, refused_here NotLive cap page refused)
+  refused_at NotFull cap pages at page is refused = (page, is, refused_here NotFull cap page refused)
+  refused_at AtLimit cap pages at page is refused = (page, is, refused_here AtLimit cap page refused)
+  refused_at NoBuddy cap pages at page is refused = absurd refused
+  refused_at BuddySplit cap pages at page is refused = absurd refused
+  refused_at (TooMany sum) cap pages at page is refused = absurd refused
+
+-- a page of a head that may be halved is live, of that prefix
+pub halved_in : {K : Type 0} {w : WardState K} (at : ℕ) (head : PageHead) (prefix : List Bool) → HasHead w.pages at head → IsHalvable w.cap head prefix → IsHalved w at prefix
+halved_in {w = w} at head prefix (page, is, same) halvable =
+    let page_is = headed page prefix halvable.link halvable.count (sym same ∙ halvable.live) in
+    record {
+      link = halvable.link;
+      records = page_is.records;
+      there = is ∙ ap Some page_is.live;
+      full = omega (arith, page_is.counted, halvable.full);
+      short = halvable.short;
+    }
 
 pub failed_with : {T : Type 0} (r : Result T WardFault) (fault : WardFault) (P : WardFault → Type 0) → IsErrAnd r (λ other. other ≡ fault) → P fault → IfErr r P
 failed_with (Ok value) fault P is refused = tt

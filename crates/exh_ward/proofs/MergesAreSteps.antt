@@ -10,13 +10,13 @@ use Rattle.exh_notice.specs.declared.notice.Notice.{Notice}
 use Rattle.exh_page.specs.declared.page.TheConstants.{CAP_LIMIT}
 use Rattle.exh_page.specs.declared.page.Page.{Page}
 use Rattle.exh_page.specs.declared.page.Page.TheVariants.{Live, Forward}
+use Rattle.exh_page.specs.Halves.{union}
 use Rattle.exh_page.specs.PageLaws.{AreOfWords, BuddiesUnite}
 use Rattle.exh_page.specs.Page.{AreRecordsOf, IsWellFormed, low_bound, records_of}
 use Rattle.exh_page.specs.PageHead.{IsLiveHead, count_in, head_of}
 use Rattle.exh_page.specs.declared.page_head.PageHead.{PageHead}
 use Rattle.exh_page.specs.declared.page_head.PageHead.TheVariants.{Live as LiveHead}
 use Rattle.exh_stores.specs.PageStore.{HasHead}
-use Rattle.exh_page.specs.Records.{IsRising}
 use Rattle.exh_legal.specs.BareLemmas.{bare_at}
 use Rattle.exh_legal.specs.Change.{IsMerge}
 use Rattle.exh_legal.specs.LegalLaws.{LinksToSibling, LeftChildrenLinkToSiblings, MergesKeepLegal}
@@ -26,8 +26,7 @@ use Rattle.exh_legal.specs.MapLemmas.{page_at}
 use Rattle.exh_legal.specs.ChangeNumbers.{next_notice}
 use Rattle.exh_legal.specs.Pages.{IsAt, IsLegalPage, IsWithin}
 use Rattle.exh_ward.specs.WardKept.{IsKeptWard}
-use Rattle.exh_ward.specs.MergeStep.{IsLeftChild, HasNoBuddy, IsMergeStep}
-use Rattle.exh_legal.specs.Halves.{IsUnionOf}
+use Rattle.exh_ward.specs.MergeStep.{FitTogether, IsLeftChild, HasNoBuddy, IsMergeStep}
 use Rattle.exh_legal.specs.LeftHalf.{FitsBeside, IsLeftHalf}
 use Rattle.exh_legal.specs.HalvesFault.{NoLeftHalf, NotBeside}
 use Rattle.exh_legal.specs.declared.halves_fault.HalvesFault.{HalvesFault}
@@ -36,10 +35,9 @@ use Rattle.exh_ward.specs.WardFault.{MergeRefused, IsTellingFault, fault_of_halv
 use Rattle.exh_ward.specs.declared.ward_fault.WardFault.{WardFault}
 use Rattle.exh_ward.specs.declared.ward_fault.WardFault.TheVariants.{NoPage, NotLive as WardNotLive, NotFull as WardNotFull, AtLimit as WardAtLimit, NoBuddy as WardNoBuddy, BuddySplit as WardBuddySplit, TooMany as WardTooMany, Worn, Memory as WardMemory, Page as PageFault}
 use Rattle.exh_legal.specs.PageIndex.{IndexMap}
-use Rattle.exh_ward.specs.Told.{IsChangedTo, IsTold}
-use Rattle.exh_ward.specs.JoinedPage.{FitTogether, AreJoined}
+use Rattle.exh_ward.specs.Told.{IsChangedTo, IsTold, MayChange}
 use Rattle.exh_ward.specs.WardState.{WardState, IsSound, own_prefix}
-use Rattle.exh_legal.specs.declared.halves_fault.HalvesFault.TheVariants.{NotLive, NotFull, AtLimit, NoBuddy, BuddySplit, TooMany, Memory}
+use Rattle.exh_legal.specs.declared.halves_fault.HalvesFault.TheVariants.{NotLive, NotFull, AtLimit, NoBuddy, BuddySplit, TooMany}
 use Rattle.exh_ward.proofs.Heads.{IsHeaded, counted_in, headed}
 use Rattle.exh_ward.proofs.StepsKeepSound.{well_formed}
 
@@ -50,6 +48,73 @@ forwards (Forward low target) not = (low, target, refl)
 few_in : (cap : ℕ) (pseudo : List ℕ → ℕ) (page : Page) → IsLegalPage cap pseudo page → length (records_of page) ≤ cap
 few_in cap pseudo (Live prefix link records) legal = legal.1
 few_in cap pseudo (Forward low target) legal = omega arith
+
+-- ---- the pages that it leaves
+
+module _ {K : Type 0} {w : WardState K} {at : ℕ} {parent : List Bool} {twin : ℕ} (halves : FitTogether w at parent twin) where
+  abbrev merged : Page
+  merged = Live parent halves.link (halves.records ++ halves.others)
+
+  abbrev forward_page : Page
+  forward_page = Forward (low_of (parent ++ true ∷ [])) at
+
+  abbrev left_half : Page
+  left_half = Live (parent ++ false ∷ []) halves.left.link halves.records
+
+  abbrev right_half : Page
+  right_half = Live (parent ++ true ∷ []) halves.link halves.others
+
+  pub apart : at ≡ twin → ⊥
+  apart same =
+      let one : left_half ≡ right_half = one_there w.pages at left_half right_half halves.left.there (subst (λ n. IsAt w.pages n right_half) (sym same) halves.buddy) in
+      let low : low_of (parent ++ false ∷ []) ≡ low_of (parent ++ true ∷ []) = ap low_bound one in
+      omega (arith, low, left_keeps parent halves.short, right_above parent halves.short)
+
+  abbrev first : List Page
+  first = slice_set w.pages at merged
+
+  abbrev new : List Page
+  new = slice_set first twin forward_page
+
+  right_first : IsAt first twin right_half
+  right_first = set_else w.pages at twin merged (λ same. apart (sym same)) ∙ halves.buddy
+
+  forwards_there : IsAt new twin forward_page
+  forwards_there = set_here first twin right_half forward_page right_first
+
+  merge_is : IsMerge w.cap w.pages at parent new
+  merge_is = record {
+    right = twin;
+    left_link = halves.left.link;
+    right_link = halves.link;
+    left_records = halves.records;
+    right_records = halves.others;
+    there = halves.left.there;
+    buddy = halves.buddy;
+    few = halves.few;
+    merged = set_else first twin at forward_page apart ∙ set_here w.pages at left_half merged halves.left.there;
+    forwards = forwards_there;
+    others = λ number else elsewhere. set_else first twin number forward_page elsewhere ∙ set_else w.pages at number merged else;
+    same = length-set first twin forward_page ∙ length-set w.pages at merged;
+  }
+
+  module _ {pseudo : List ℕ → ℕ} (sound : IsSound pseudo w) (words : AreOfWords pseudo) (law : MergesKeepLegal) (notice : Notice) (next : notice ≡ next_notice w.number w.table parent Merge) where
+    pub merge_changed : IsChangedTo pseudo w notice new
+    merge_changed = law w.cap pseudo (own_prefix w) w.start w.notices w.table w.pages at parent new notice words sound.legal merge_is
+        (ap (λ (n : Notice). n.prefix) next) (ap (λ (n : Notice). n.number) next) (ap (λ (n : Notice). n.kind) next)
+
+    pub forward_formed : IsWellFormed pseudo forward_page
+    forward_formed =
+        let within : IsWithin (own_prefix w) forward_page = merge_changed.legal.legal.linked.within twin forward_page (bare_at new twin forward_page forwards_there) in
+        (λ none. omega (arith, right_above parent halves.short, none), within.2)
+
+    pub merge_step : (after : WardState K) → IsTold w notice new after → IsMergeStep w at notice after
+    merge_step after told =
+        let P : WardState K → Type 0 = λ after. IsMergeStep w at notice after in
+        let at_prefix : parent ≡ notice.prefix = sym (ap (λ (n : Notice). n.prefix) next) in
+        let Q : List Bool → Type 0 = λ p. IsMerge w.cap w.pages at p new in
+        let R : List Bool → Type 0 = λ p. notice ≡ next_notice w.number w.table p Merge in
+        subst P (sym told) (record { merge = subst Q at_prefix merge_is; notice_is = subst R at_prefix next; map = merge_changed.map; places = merge_changed.places; others = refl })
 
 module _ {K : Type 0} {pseudo : List ℕ → ℕ} {takes : Page → Type 0} {own : List Bool} {index : IndexMap} {told : ℕ} {w : WardState K} (kept : IsKeptWard pseudo takes own index told w) where
   legal_at : (number : ℕ) (page : Page) → IsAt w.pages number page → IsLegalPage w.cap pseudo page
@@ -79,7 +144,6 @@ module _ {K : Type 0} {pseudo : List ℕ → ℕ} {takes : Page → Type 0} {own
       (prefix, link, page_is.records, is.1 ∙ ap Some page_is.live, no_buddy)
   no_left_half at left is BuddySplit refused = absurd refused
   no_left_half at left is (TooMany sum) refused = absurd refused
-  no_left_half at left is Memory refused = absurd refused
 
   module _ (at : ℕ) {left : PageHead} (there : HasHead w.pages at left) {half : LeftHalf} (is : IsLeftHalf own left half) where
     abbrev pub page_is : IsHeaded there.0 (half.parent ++ false ∷ []) half.right half.count
@@ -125,7 +189,6 @@ module _ {K : Type 0} {pseudo : List ℕ → ℕ} {takes : Page → Type 0} {own
           not_beside (TooMany sum) (link, count, head, sum_is, more) =
               let other = headed is_buddy.0 (half.parent ++ true ∷ []) link count (sym is_buddy.2 ∙ head) in
               (half.parent, page_is.records, other.records, left_child, (right, link, is_buddy.1 ∙ ap Some other.live), omega (arith, sum_is, page_is.counted, other.counted), more)
-          not_beside Memory refused = absurd refused
 
           pub halves_fit : length half.parent < LIMIT → FitsBeside w.cap half buddy → FitTogether w at half.parent right
           halves_fit short fits =
@@ -152,43 +215,31 @@ module _ {K : Type 0} {pseudo : List ℕ → ℕ} {takes : Page → Type 0} {own
     pub buddy_within : right < length w.pages
     buddy_within = slice_get_within w.pages right right_page halves.buddy
 
-    module _ {left buddy : Page} (there : IsAt w.pages at left) (is_buddy : IsAt w.pages right buddy) where
-      left_is : left ≡ left_page
-      left_is = one_there w.pages at left left_page there halves.left.there
+    module _ (words : AreOfWords pseudo) (unite : BuddiesUnite) where
+      all_records : AreRecordsOf pseudo parent (halves.records ++ halves.others)
+      all_records = unite pseudo parent halves.records halves.others words halves.short (legal_at at left_page halves.left.there).0 (legal_at right right_page halves.buddy).0
 
-      buddy_is : buddy ≡ right_page
-      buddy_is = one_there w.pages right buddy right_page is_buddy halves.buddy
+      well_merged : length w.pages < 2 ^ 32 - 1 → IsWellFormed pseudo (union parent left_page right_page)
+      well_merged few =
+          let formed = well_formed w.pages kept.sound.legal.legal.legal.linked few kept.most right (parent ++ true ∷ []) halves.link halves.others halves.others halves.buddy (legal_at right right_page halves.buddy) in
+          let most : length (halves.records ++ halves.others) ≤ CAP_LIMIT = omega (arith, length-append halves.records halves.others, halves.few, kept.most) in
+          (all_records, most, formed.2)
 
-      module _ (words : AreOfWords pseudo) (unite : BuddiesUnite) where
-        all_records : AreRecordsOf pseudo parent (halves.records ++ halves.others)
-        all_records = unite pseudo parent halves.records halves.others words halves.short (legal_at at left_page halves.left.there).0 (legal_at right right_page halves.buddy).0
-
-        all_are : records_of left ++ records_of buddy ≡ halves.records ++ halves.others
-        all_are = ap (λ page. records_of page ++ records_of buddy) left_is ∙ ap (λ page. halves.records ++ records_of page) buddy_is
-
-        pub rising : IsRising (records_of left ++ records_of buddy)
-        rising = subst IsRising (sym all_are) all_records.rising
-
-        abbrev merged_page : Page
-        merged_page = Live parent halves.link (halves.records ++ halves.others)
-
-        well_merged : length w.pages < 2 ^ 32 - 1 → IsWellFormed pseudo merged_page
-        well_merged few =
-            let formed = well_formed w.pages kept.sound.legal.legal.legal.linked few kept.most right (parent ++ true ∷ []) halves.link halves.others halves.others halves.buddy (legal_at right right_page halves.buddy) in
-            let most : length (halves.records ++ halves.others) ≤ CAP_LIMIT = omega (arith, length-append halves.records halves.others, halves.few, kept.most) in
-            (all_records, most, formed.2)
-
-        union_is : (union : Page) → IsUnionOf left buddy parent union → union ≡ merged_page
-        union_is union is =
-            let same : right_page ≡ Live is.prefix is.link is.others = sym buddy_is ∙ is.live in
-            let link : halves.link ≡ is.link = cc in
-            let others : halves.others ≡ is.others = cc in
-            is.is ∙ ap (λ link. Live parent link (records_of left ++ is.others)) (sym link) ∙ ap (λ others. Live parent halves.link (records_of left ++ others)) (sym others) ∙ ap (λ page. Live parent halves.link (records_of page ++ halves.others)) left_is
-
-        pub united : length w.pages < 2 ^ 32 - 1 → (union : Page) → IsUnionOf left buddy parent union → AreJoined w pseudo at parent right union
-        united few union is =
-            let same = union_is union is in
-            record { halves = halves; is = same; formed = subst (IsWellFormed pseudo) (sym same) (well_merged few) }
+      -- the ward may make the merge
+      pub may_merge : MergesKeepLegal → length w.pages < 2 ^ 32 - 1 → MayChange pseudo w at right parent Merge
+      may_merge law few =
+          let changed = merge_changed halves kept.sound words law _ refl in
+          record {
+            page = left_page;
+            twin = right_page;
+            there = halves.left.there;
+            twin_there = halves.buddy;
+            apart = apart halves;
+            fit = (tt, tt, all_records.rising);
+            formed = well_merged few;
+            twin_formed = forward_formed halves kept.sound words law _ refl;
+            changed = changed;
+          }
 
 -- ---- what is refused when it is told
 
@@ -203,90 +254,3 @@ telling_refuses halves (WardTooMany sum) is = absurd is
 telling_refuses {parent = parent} {right = right} halves Worn is = (parent, halves.records, halves.others, halves.left, (right, halves.link, halves.buddy), halves.few, is)
 telling_refuses halves WardMemory is = tt
 telling_refuses halves PageFault is = tt
-
--- ---- the pages that it leaves
-
-module _ {K : Type 0} {w : WardState K} {pseudo : List ℕ → ℕ} {at : ℕ} {parent : List Bool} {twin : ℕ} {merged : Page} (is : AreJoined w pseudo at parent twin merged) where
-  abbrev halves : FitTogether w at parent twin
-  halves = is.halves
-
-  abbrev forward_page : Page
-  forward_page = Forward (low_of (parent ++ true ∷ [])) at
-
-  abbrev left : Page
-  left = Live (parent ++ false ∷ []) halves.left.link halves.records
-
-  abbrev right : Page
-  right = Live (parent ++ true ∷ []) halves.link halves.others
-
-  pub apart : at ≡ twin → ⊥
-  apart same =
-      let one : left ≡ right = one_there w.pages at left right halves.left.there (subst (λ n. IsAt w.pages n right) (sym same) halves.buddy) in
-      let low : low_of (parent ++ false ∷ []) ≡ low_of (parent ++ true ∷ []) = ap low_bound one in
-      omega (arith, low, left_keeps parent halves.short, right_above parent halves.short)
-
-  abbrev first : List Page
-  first = slice_set w.pages at merged
-
-  abbrev new : List Page
-  new = slice_set first twin forward_page
-
-  right_first : IsAt first twin right
-  right_first = set_else w.pages at twin merged (λ same. apart (sym same)) ∙ halves.buddy
-
-  forwards_there : IsAt new twin forward_page
-  forwards_there = set_here first twin right forward_page right_first
-
-  merge_is : IsMerge w.cap w.pages at parent new
-  merge_is = record {
-    right = twin;
-    left_link = halves.left.link;
-    right_link = halves.link;
-    left_records = halves.records;
-    right_records = halves.others;
-    there = halves.left.there;
-    buddy = halves.buddy;
-    few = halves.few;
-    merged = set_else first twin at forward_page apart ∙ set_here w.pages at left merged halves.left.there ∙ ap Some is.is;
-    forwards = forwards_there;
-    others = λ number else elsewhere. set_else first twin number forward_page elsewhere ∙ set_else w.pages at number merged else;
-    same = length-set first twin forward_page ∙ length-set w.pages at merged;
-  }
-
-  module _ (sound : IsSound pseudo w) (words : AreOfWords pseudo) (law : MergesKeepLegal) (notice : Notice) (next : notice ≡ next_notice w.number w.table parent Merge) where
-    changed : IsChangedTo pseudo w notice new
-    changed = law w.cap pseudo (own_prefix w) w.start w.notices w.table w.pages at parent new notice words sound.legal merge_is
-        (ap (λ (n : Notice). n.prefix) next) (ap (λ (n : Notice). n.number) next) (ap (λ (n : Notice). n.kind) next)
-
-    forward_formed : IsWellFormed pseudo forward_page
-    forward_formed =
-        let within : IsWithin (own_prefix w) forward_page = changed.legal.legal.linked.within twin forward_page (bare_at new twin forward_page forwards_there) in
-        (λ none. omega (arith, right_above parent halves.short, none), within.2)
-
-    step : (after : WardState K) → IsTold w notice new after → IsMergeStep w at notice after
-    step after told =
-        let P : WardState K → Type 0 = λ after. IsMergeStep w at notice after in
-        let at_prefix : parent ≡ notice.prefix = sym (ap (λ (n : Notice). n.prefix) next) in
-        let Q : List Bool → Type 0 = λ p. IsMerge w.cap w.pages at p new in
-        let R : List Bool → Type 0 = λ p. notice ≡ next_notice w.number w.table p Merge in
-        subst P (sym told) (record { merge = subst Q at_prefix merge_is; notice_is = subst R at_prefix next; map = changed.map; places = changed.places; others = refl })
-
-    -- the forwarding page as the ward made it
-    module _ {forward : Page} (is_forward : forward ≡ forward_page) where
-      made : new ≡ slice_set (slice_set w.pages at merged) twin forward
-      made = ap (slice_set first twin) (sym is_forward)
-
-      pub merge_changed : IsChangedTo pseudo w notice (slice_set (slice_set w.pages at merged) twin forward)
-      merge_changed = subst (IsChangedTo pseudo w notice) made changed
-
-      pub merge_step : (after : WardState K) → IsTold w notice (slice_set (slice_set w.pages at merged) twin forward) after → IsMergeStep w at notice after
-      merge_step after told = let P : List Page → Type 0 = λ pages. IsTold w notice pages after in step after (subst P (sym made) told)
-
-      pub twin_formed : IsWellFormed pseudo forward
-      twin_formed = subst (IsWellFormed pseudo) (sym is_forward) forward_formed
-
--- the union, where the ward is as it was
-pub still_united : {K : Type 0} (pseudokey_of : K → List ℕ → ℕ) {w now : WardState K} → w ≡ now → {at : ℕ} {parent : List Bool} {twin : ℕ} {union : Page} → AreJoined now (pseudokey_of now.keyer) at parent twin union → AreJoined w (pseudokey_of w.keyer) at parent twin union
-still_united {K = K} pseudokey_of same {at = at} {parent = parent} {twin = twin} {union = union} is =
-    let P : WardState K → Type 0 = λ w. AreJoined w (pseudokey_of w.keyer) at parent twin union in
-    subst P (sym same) is

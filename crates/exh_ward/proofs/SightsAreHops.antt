@@ -5,6 +5,8 @@ use Rattle.exh_prefix.specs.PrefixListLemmas.{one_there}
 use Rattle.exh_page.specs.declared.page.Page.{Page}
 use Rattle.exh_page.specs.declared.page.Page.TheVariants.{Live, Forward}
 use Rattle.exh_page.specs.declared.record.Record.{Record}
+use Rattle.exh_page.specs.declared.lookup.Lookup.{Lookup}
+use Rattle.exh_page.specs.Lookup.{IsLookup}
 use Rattle.exh_page.specs.Page.{low_bound}
 use Rattle.exh_legal.specs.LegalLaws.{RightLinksLeadOn}
 use Rattle.exh_legal.specs.MapLemmas.{get-map_of}
@@ -28,6 +30,11 @@ sight_in cap pseudokey pages at call (Leads next) page is sight = (page, is, sig
 sight_in cap pseudokey pages at call NoWay page is sight = (page, is, sight)
 sight_in cap pseudokey pages at call MustWait page is sight = (page, is, sight)
 sight_in cap pseudokey pages at call (Home home) page is sight = (page, is, sight)
+
+-- what is seen by what was found, where that was for the call's key
+pub sight_found : (cap pseudokey : ℕ) (call : Call) (sight : Sight) (found : Lookup) (key : List ℕ) (page : Page) → key ≡ key_of call → IsLookup (pseudokey, key) page found
+    → ((page : Page) → IsLookup (pseudokey, key_of call) page found → SightOf cap pseudokey page call sight) → SightOf cap pseudokey page call sight
+sight_found cap pseudokey call sight found key page same is of = of page (subst (λ key. IsLookup (pseudokey, key) page found) same is)
 
 -- no page is there
 pub nothing_in : (cap pseudokey : ℕ) (pages : List Page) (at : ℕ) (call : Call) → (slice_get pages at ≡ None) → SightIn cap pseudokey pages at call Beyond

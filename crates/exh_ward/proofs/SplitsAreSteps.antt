@@ -14,7 +14,6 @@ use Rattle.exh_notice.specs.declared.notice.Notice.{Notice}
 use Rattle.exh_page.specs.declared.page.TheConstants.{CAP_LIMIT}
 use Rattle.exh_page.specs.declared.page.Page.{Page}
 use Rattle.exh_page.specs.declared.page.Page.TheVariants.{Live, Forward}
-use Rattle.exh_page.specs.declared.record.Record.{Record}
 use Rattle.exh_page.specs.Page.{IsLive, IsWellFormed, low_bound, begun_by}
 use Rattle.exh_legal.specs.Change.{IsForwardOf, IsSplit}
 use Rattle.exh_legal.specs.Growth.{IsLiveAt}
@@ -22,26 +21,10 @@ use Rattle.exh_legal.specs.LegalLaws.{LivePagesSplit, PagesAreFew, SplitsKeepLeg
 use Rattle.exh_legal.specs.MapLemmas.{page_at}
 use Rattle.exh_legal.specs.ChangeNumbers.{number_at, next_notice}
 use Rattle.exh_legal.specs.Pages.{IsAt, IsLegalPage}
-use Rattle.exh_legal.specs.Halves.{AreHalvesOf}
-use Rattle.exh_ward.specs.SplitStep.{IsSplitStep}
+use Rattle.exh_ward.specs.SplitStep.{IsHalved, IsSplitStep}
 use Rattle.exh_ward.specs.Told.{IsChangedTo, IsTold}
 use Rattle.exh_ward.specs.WardState.{WardState, IsSound, own_prefix}
-use Rattle.exh_legal.specs.declared.halves.Halves.{Halves}
 use Rattle.exh_ward.proofs.StepsKeepSound.{well_formed}
-
--- a page of the ward, with its halves
-pub record IsHalved {K : Type 0} (w : WardState K) (at : ℕ) (halves : Halves) : Type 0 where
-  pub records : List Record
-  pub there : IsAt w.pages at (Live halves.prefix halves.link records)
-  pub full : w.cap ≤ length records
-  pub short : length halves.prefix < LIMIT
-  pub left : halves.left ≡ begun_by (halves.prefix ++ false ∷ []) records
-  pub right : halves.right ≡ begun_by (halves.prefix ++ true ∷ []) records
-
-pub halved : {K : Type 0} {w now : WardState K} → w ≡ now → (at : ℕ) (halves : Halves) → (old : Page) × IsAt now.pages at old × AreHalvesOf now.cap old halves → IsHalved w at halves
-halved {K = K} same at halves (old, is, are) =
-    let P : WardState K → Type 0 = λ w. IsHalved w at halves in
-    subst P (sym same) (record { records = are.records; there = is ∙ ap Some are.live; full = are.full; short = are.short; left = are.left; right = are.right })
 
 -- the pages after a split, with the two that it made
 pub record IsMade {K : Type 0} (w : WardState K) (at : ℕ) (prefix : List Bool) (right : ℕ) (left twin : Page) (new : List Page) : Type 0 where
@@ -51,42 +34,35 @@ pub record IsMade {K : Type 0} (w : WardState K) (at : ℕ) (prefix : List Bool)
   pub twin_at : IsAt new right twin
   pub twin_live : IsLive twin
 
-module _ {K : Type 0} {w : WardState K} {at : ℕ} {halves : Halves} (is : IsHalved w at halves) where
-  abbrev low : ℕ
-  low = low_of (halves.prefix ++ true ∷ [])
+module _ {K : Type 0} {w : WardState K} {at : ℕ} {prefix : List Bool} (is : IsHalved w at prefix) where
+  abbrev pub low : ℕ
+  low = low_of (prefix ++ true ∷ [])
 
-  abbrev left_page : ℕ → Page
-  left_page right = Live (halves.prefix ++ false ∷ []) (Some right) (begun_by (halves.prefix ++ false ∷ []) is.records)
+  abbrev pub left_page : ℕ → Page
+  left_page right = Live (prefix ++ false ∷ []) (Some right) (begun_by (prefix ++ false ∷ []) is.records)
 
-  abbrev right_page : Page
-  right_page = Live (halves.prefix ++ true ∷ []) halves.link (begun_by (halves.prefix ++ true ∷ []) is.records)
+  abbrev pub right_page : Page
+  right_page = Live (prefix ++ true ∷ []) is.link (begun_by (prefix ++ true ∷ []) is.records)
 
-  pub live_there : (number : ℕ) × IsLiveAt w.pages halves.prefix number
-  live_there = (at, (halves.link, is.records, is.there))
+  pub live_there : (number : ℕ) × IsLiveAt w.pages prefix number
+  live_there = (at, (is.link, is.records, is.there))
 
   pub at_within : at < length w.pages
   at_within = slice_get_within w.pages at _ is.there
 
-  -- the pages as the ward made them
-  pub left_is : (right : ℕ) (page : Page) → page ≡ Live (halves.prefix ++ false ∷ []) (Some right) halves.left → page ≡ left_page right
-  left_is right page made = made ∙ ap (Live (halves.prefix ++ false ∷ []) (Some right)) is.left
-
-  pub right_is : (page : Page) → page ≡ Live (halves.prefix ++ true ∷ []) halves.link halves.right → page ≡ right_page
-  right_is page made = made ∙ ap (Live (halves.prefix ++ true ∷ []) halves.link) is.right
-
   pub apart : (right : ℕ) → IsForwardOf w.pages low right → at ≡ right → ⊥
   apart right forward same =
-      let both : Some (Live halves.prefix halves.link is.records) ≡ Some (Forward low forward.0) = sym is.there ∙ ap (slice_get w.pages) same ∙ forward.1 in
+      let both : Some (Live prefix is.link is.records) ≡ Some (Forward low forward.0) = sym is.there ∙ ap (slice_get w.pages) same ∙ forward.1 in
       cc
 
   -- a split that makes a forwarding page live again
-  pub revived : (right : ℕ) → IsForwardOf w.pages low right → IsSplit w.cap w.pages at halves.prefix right (slice_set (slice_set w.pages at (left_page right)) right right_page)
+  pub revived : (right : ℕ) → IsForwardOf w.pages low right → IsSplit w.cap w.pages at prefix right (slice_set (slice_set w.pages at (left_page right)) right right_page)
   revived right forward =
       let first = slice_set w.pages at (left_page right) in
       let differ = apart right forward in
       let forward_first : IsAt first right (Forward low forward.0) = set_else w.pages at right (left_page right) (λ same. differ (sym same)) ∙ forward.1 in
       record {
-        link = halves.link;
+        link = is.link;
         records = is.records;
         there = is.there;
         full = is.full;
@@ -98,13 +74,13 @@ module _ {K : Type 0} {w : WardState K} {at : ℕ} {halves : Halves} (is : IsHal
       }
 
   -- a split that makes a new page
-  pub fresh : ((number : ℕ) (page : Page) → IsAt w.pages number page → low_bound page ≡ low → ⊥) → IsSplit w.cap w.pages at halves.prefix (length w.pages) (slice_set w.pages at (left_page (length w.pages)) ++ right_page ∷ [])
+  pub fresh : ((number : ℕ) (page : Page) → IsAt w.pages number page → low_bound page ≡ low → ⊥) → IsSplit w.cap w.pages at prefix (length w.pages) (slice_set w.pages at (left_page (length w.pages)) ++ right_page ∷ [])
   fresh none =
       let right = length w.pages in
       let front = slice_set w.pages at (left_page right) in
       let same : length front ≡ right = length-set w.pages at (left_page right) in
       record {
-        link = halves.link;
+        link = is.link;
         records = is.records;
         there = is.there;
         full = is.full;
@@ -121,53 +97,45 @@ module _ {K : Type 0} {w : WardState K} {at : ℕ} {halves : Halves} (is : IsHal
       }
 
   -- the pages after a split, with the two that it makes
-  pub made_revived : (right : ℕ) → IsForwardOf w.pages low right → (left twin : Page) → left ≡ Live (halves.prefix ++ false ∷ []) (Some right) halves.left → twin ≡ Live (halves.prefix ++ true ∷ []) halves.link halves.right
-      → IsMade w at halves.prefix right left twin (slice_set (slice_set w.pages at left) right twin)
-  made_revived right forward left twin is_left is_twin =
-      let split = revived right forward in
+  pub made_revived : (right : ℕ) → IsForwardOf w.pages low right → IsMade w at prefix right (left_page right) right_page (slice_set (slice_set w.pages at (left_page right)) right right_page)
+  made_revived right forward =
       let first = slice_set w.pages at (left_page right) in
       let differ = apart right forward in
       let forward_first : IsAt first right (Forward low forward.0) = set_else w.pages at right (left_page right) (λ same. differ (sym same)) ∙ forward.1 in
-      let P : Page → Type 0 = λ left. IsMade w at halves.prefix right left twin (slice_set (slice_set w.pages at left) right twin) in
-      let Q : Page → Type 0 = λ twin. IsMade w at halves.prefix right (left_page right) twin (slice_set (slice_set w.pages at (left_page right)) right twin) in
-      subst P (sym (left_is right left is_left)) (subst Q (sym (right_is twin is_twin)) (record {
-        split = split;
+      record {
+        split = revived right forward;
         left_live = tt;
         twin_live = tt;
         left_at = set_else first right at right_page differ ∙ set_here w.pages at _ (left_page right) is.there;
         twin_at = set_here first right _ right_page forward_first;
-      }))
+      }
 
-  pub made_fresh : ((number : ℕ) (page : Page) → IsAt w.pages number page → low_bound page ≡ low → ⊥) → (right : ℕ) → right ≡ length w.pages → (left twin : Page)
-      → left ≡ Live (halves.prefix ++ false ∷ []) (Some right) halves.left → twin ≡ Live (halves.prefix ++ true ∷ []) halves.link halves.right → IsMade w at halves.prefix right left twin (slice_set w.pages at left ++ twin ∷ [])
-  made_fresh none right right_last left twin is_left is_twin =
+  pub made_fresh : ((number : ℕ) (page : Page) → IsAt w.pages number page → low_bound page ≡ low → ⊥)
+      → IsMade w at prefix (length w.pages) (left_page (length w.pages)) right_page (slice_set w.pages at (left_page (length w.pages)) ++ right_page ∷ [])
+  made_fresh none =
       let last = length w.pages in
       let front = slice_set w.pages at (left_page last) in
       let same : length front ≡ last = length-set w.pages at (left_page last) in
-      let P : Page → Type 0 = λ left. IsMade w at halves.prefix last left twin (slice_set w.pages at left ++ twin ∷ []) in
-      let Q : Page → Type 0 = λ twin. IsMade w at halves.prefix last (left_page last) twin (slice_set w.pages at (left_page last) ++ twin ∷ []) in
-      let R : ℕ → Type 0 = λ right. IsMade w at halves.prefix right left twin (slice_set w.pages at left ++ twin ∷ []) in
-      let is_left_last = is_left ∙ ap (λ right. Live (halves.prefix ++ false ∷ []) (Some right) halves.left) right_last in
-      subst R (sym right_last) (subst P (sym (left_is last left is_left_last)) (subst Q (sym (right_is twin is_twin)) (record {
+      record {
         split = fresh none;
         left_live = tt;
         twin_live = tt;
         left_at = at_front front (right_page ∷ []) at (omega (arith, same, at_within)) ∙ set_here w.pages at _ (left_page last) is.there;
         twin_at = ap (slice_get (front ++ right_page ∷ [])) (sym same) ∙ at_last front right_page;
-      })))
+      }
 
   module _ {pseudo : List ℕ → ℕ} (sound : IsSound pseudo w) where
-    pub number_even : LivePagesSplit → (number_at w.table halves.prefix) % 2 ≡ 0
-    number_even law = (law w.cap pseudo (own_prefix w) w.start w.notices w.table w.pages halves.prefix at sound.legal (halves.link, is.records, is.there) is.short).even
+    pub number_even : LivePagesSplit → (number_at w.table prefix) % 2 ≡ 0
+    number_even law = (law w.cap pseudo (own_prefix w) w.start w.notices w.table w.pages prefix at sound.legal (is.link, is.records, is.there) is.short).even
 
-    pub not_greatest : LivePagesSplit → number_at w.table halves.prefix ≡ 2 ^ 32 - 1 → ⊥
+    pub not_greatest : LivePagesSplit → number_at w.table prefix ≡ 2 ^ 32 - 1 → ⊥
     not_greatest law same =
-        let parity : (number_at w.table halves.prefix) % 2 ≡ 1 = ap (λ n. n % 2) same in
+        let parity : (number_at w.table prefix) % 2 ≡ 1 = ap (λ n. n % 2) same in
         omega (arith, parity, number_even law)
 
-    module _ (law : SplitsKeepLegal) (right : ℕ) (new : List Page) (split : IsSplit w.cap w.pages at halves.prefix right new) (notice : Notice) (next : notice ≡ next_notice w.number w.table halves.prefix (Split right)) where
+    module _ (law : SplitsKeepLegal) (right : ℕ) (new : List Page) (split : IsSplit w.cap w.pages at prefix right new) (notice : Notice) (next : notice ≡ next_notice w.number w.table prefix (Split right)) where
       pub split_changed : IsChangedTo pseudo w notice new
-      split_changed = law w.cap pseudo (own_prefix w) w.start w.notices w.table w.pages at halves.prefix right new notice sound.legal split
+      split_changed = law w.cap pseudo (own_prefix w) w.start w.notices w.table w.pages at prefix right new notice sound.legal split
           (ap (λ (n : Notice). n.prefix) next) (ap (λ (n : Notice). n.number) next) (ap (λ (n : Notice). n.kind) next)
 
       -- the halves are well formed
@@ -187,7 +155,7 @@ module _ {K : Type 0} {w : WardState K} {at : ℕ} {halves : Halves} (is : IsHal
       pub split_step : (after : WardState K) → IsTold w notice new after → IsSplitStep w at notice after
       split_step after told =
           let P : WardState K → Type 0 = λ after. IsSplitStep w at notice after in
-          let at_prefix : halves.prefix ≡ notice.prefix = sym (ap (λ (n : Notice). n.prefix) next) in
+          let at_prefix : prefix ≡ notice.prefix = sym (ap (λ (n : Notice). n.prefix) next) in
           let Q : List Bool → Type 0 = λ p. IsSplit w.cap w.pages at p right new in
           let R : List Bool → Type 0 = λ p. notice ≡ next_notice w.number w.table p (Split right) in
           subst P (sym told) (record {

@@ -5,7 +5,10 @@ use Rattle.std.proofs.lemmas.Option.{slice_get_within}
 use Rattle.std.proofs.lemmas.List.{length-map}
 use Rattle.exh_page.specs.declared.page.TheConstants.{CAP_LIMIT}
 use Rattle.exh_page.specs.declared.page.Page.{Page}
-use Rattle.exh_page.specs.declared.page.Page.TheVariants.{Live}
+use Rattle.exh_page.specs.declared.page.Page.TheVariants.{Live, Forward}
+use Rattle.exh_page.specs.Lookup.{HasPseudokey}
+use Rattle.exh_prefix.specs.PrefixListLemmas.{AllByRecursion-weaker}
+use Rattle.exh_legal.specs.MapLemmas.{page_at}
 use Rattle.exh_page.specs.declared.record.Record.{Record}
 use Rattle.exh_page.specs.Page.{AreRecordsOf, IsWellFormed, with_records}
 use Rattle.exh_legal.specs.Growth.{IsGrown}
@@ -13,7 +16,7 @@ use Rattle.exh_legal.specs.Fit.{FitsPages}
 use Rattle.exh_legal.specs.LegalLaws.{IsWard}
 use Rattle.exh_legal.specs.BareLemmas.{bare_at}
 use Rattle.exh_legal.specs.NoticeLemmas.{places_by_bare, still_true}
-use Rattle.exh_legal.specs.Pages.{map_of, IsAt, IsRightLink, AreLinked, bare}
+use Rattle.exh_legal.specs.Pages.{map_of, IsAt, IsLegalPage, IsRightLink, AreLinked, bare}
 use Rattle.exh_calls.specs.Call.{key_of}
 use Rattle.exh_ward.specs.WardKept.{IsKeptWard}
 use Rattle.exh_calls.specs.MapMachine.{reply_of, map_after}
@@ -47,6 +50,14 @@ pub well_formed : {cap : ℕ} {pseudo : List ℕ → ℕ} {ward : List Bool} (pa
     → IsAt pages at (Live prefix link records) → AreRecordsOf pseudo prefix left × (length left ≤ cap) → IsWellFormed pseudo (Live prefix link left)
 well_formed pages linked few most at prefix link records left is legal =
     (legal.0, omega (arith, legal.1, most), linked_fits pages (Live prefix link []) link few (linked.links at (Live prefix link []) (bare_at pages at _ is)))
+
+-- a page of a ward has its records under their keys' pseudokeys
+pub hashed_at : {K : Type 0} {pseudo : List ℕ → ℕ} {takes : Page → Type 0} {own : List Bool} {index : IndexMap} {told : ℕ} {w : WardState K} → IsKeptWard pseudo takes own index told w → (at : ℕ) (page : Page) → IsAt w.pages at page → {pseudokey : ℕ} {key : List ℕ}
+    → pseudokey ≡ pseudo key → HasPseudokey pseudokey key page
+hashed_at {pseudo = pseudo} {w = w} kept at page is {pseudokey = pseudokey} {key = key} hashed = hashed_in page (page_at (IsLegalPage w.cap pseudo) w.pages at page kept.sound.legal.legal.legal.each is) where
+  hashed_in : (page : Page) → IsLegalPage w.cap pseudo page → HasPseudokey pseudokey key page
+  hashed_in (Live prefix link records) legal = AllByRecursion-weaker _ _ (λ r is same. is ∙ ap pseudo same ∙ sym hashed) records legal.0.hashed
+  hashed_in (Forward low target) legal = tt
 
 module _ {K : Type 0} {pseudo : List ℕ → ℕ} {takes : Page → Type 0} {own : List Bool} {index : IndexMap} {told : ℕ} {w : WardState K} (kept : IsKeptWard pseudo takes own index told w) (takes_now : Page → Type 0) (same_takes : (page : Page) → takes page ↔ takes_now page) where
   sound_counted : (failures : ℕ) → IsSound pseudo (record w { failures = failures })

@@ -1,5 +1,6 @@
 -- What a merge of a ward's page comes to.
-use Rattle.std.specs.Prelude.{◌≡◌, ◌⊎◌, ℕ, ◌≤◌, Bool, true, false, List, [], ◌∷◌, ◌++◌, length, Option}
+use Rattle.std.specs.Prelude.{◌≡◌, ◌⊎◌, ℕ, ◌+◌, ◌<◌, ◌≤◌, Bool, true, false, List, [], ◌∷◌, ◌++◌, length, Option}
+use Rattle.exh_prefix.specs.declared.prefix.TheConstants.{LIMIT}
 use Rattle.exh_notice.specs.declared.entry.Kind.TheVariants.{Merge}
 use Rattle.exh_notice.specs.declared.notice.Notice.{Notice}
 use Rattle.exh_table.specs.Table.{table_with}
@@ -20,6 +21,16 @@ pub record IsLeftChild {K : Type 0} (ward : WardState K) (at : ℕ) (prefix : Li
 -- the right child is live, with these records
 abbrev pub IsBuddy : {K : Type 0} → WardState K → List Bool → List Record → Type 0
 IsBuddy ward prefix records = (number : ℕ) × (link : Option ℕ) × IsAt ward.pages number (Live (prefix ++ true ∷ []) link records)
+
+-- the pages at two numbers are the live halves of a parent, and fit into one
+pub record FitTogether {K : Type 0} (ward : WardState K) (at : ℕ) (parent : List Bool) (right : ℕ) : Type 0 where
+  pub records : List Record
+  pub link : Option ℕ
+  pub others : List Record
+  pub left : IsLeftChild ward at parent records
+  pub buddy : IsAt ward.pages right (Live (parent ++ true ∷ []) link others)
+  pub few : length records + length others ≤ ward.cap
+  pub short : length parent < LIMIT
 
 -- the live page can't be a left half: its prefix is the ward's own, or ends in 1
 abbrev pub HasNoBuddy : {K : Type 0} → WardState K → List Bool → Type 0

@@ -1,5 +1,5 @@
 -- What a call meets at a page.
-use Rattle.std.specs.Prelude.{◌≡◌, ℕ, ◌<◌, ◌≤◌, nat_le, Bool, List, length, None, Result}
+use Rattle.std.specs.Prelude.{◌≡◌, ℕ, ◌<◌, ◌≤◌, nat_le, Bool, List, length, Option, None}
 use Rattle.exh_prefix.specs.Prefix.{Begins}
 use Rattle.exh_page.specs.declared.page.Page.{Page}
 use Rattle.exh_page.specs.declared.page.Page.TheVariants.{Live}
@@ -7,7 +7,7 @@ use Rattle.exh_page.specs.declared.record.Record.{Record}
 use Rattle.exh_page.specs.declared.spot.Spot.{Spot}
 use Rattle.exh_page.specs.Page.{low_bound, records_of}
 use Rattle.exh_page.specs.Records.{value_at}
-use Rattle.exh_page.specs.Search.{IsSought}
+use Rattle.exh_page.specs.Search.{IsStood}
 use Rattle.exh_calls.specs.Call.{key_of}
 use Rattle.exh_calls.specs.Effect.{Change, effect_of}
 use Rattle.exh_ward.specs.HopTable.{IsReached, LeadsTo}
@@ -26,7 +26,7 @@ IsDeadEnd page pseudokey = (prefix : List Bool) × (records : List Record) × (p
 -- what the home page has for the call
 pub record IsSeenAt (cap pseudokey : ℕ) (page : Page) (call : Call) (home : HomeSight) : Type 0 where
   pub full : home.full ≡ nat_le cap (length (records_of page))
-  pub sought : IsSought (pseudokey, key_of call) (records_of page) home.spot
+  pub spot : IsStood (pseudokey, key_of call) (records_of page) home.spot
   pub stood : home.stood ≡ value_at (pseudokey, key_of call) (records_of page)
 
 abbrev pub SightOf : ℕ → ℕ → Page → Call → Sight → Type 0
@@ -41,8 +41,8 @@ abbrev pub SightIn : ℕ → ℕ → List Page → ℕ → Call → Sight → Ty
 SightIn cap pseudokey pages at call Beyond = (page : Page) → IsReached pages at pseudokey page → ⊥
 SightIn cap pseudokey pages at call sight = (page : Page) × IsAt pages at page × SightOf cap pseudokey page call sight
 
--- what a hop does at the call's home: the change where the search came to, and the reply
-pub record IsAnswerOf (cap pseudokey : ℕ) (pages : List Page) (at : ℕ) (call : Call) (spot : Result Spot Spot) (change : Change) (reply : Reply) : Type 0 where
+-- what a hop does at the call's home: the change where the key's record stands, and the reply
+pub record IsAnswerOf (cap pseudokey : ℕ) (pages : List Page) (at : ℕ) (call : Call) (spot : Option Spot) (change : Change) (reply : Reply) : Type 0 where
   pub home : HomeSight
   pub seen : SightIn cap pseudokey pages at call (Home home)
   pub spot_is : home.spot ≡ spot

@@ -11,7 +11,7 @@ use Rattle.exh_legal.specs.Pages.{IsAt}
 use Rattle.exh_stores.specs.declared.pages_fault.PagesFault.{PagesFault}
 use Rattle.exh_stores.specs.declared.pages_fault.PagesFault.TheVariants.{Memory as StoreMemory, Page as StorePage}
 use Rattle.exh_legal.specs.declared.halves_fault.HalvesFault.{HalvesFault}
-use Rattle.exh_legal.specs.declared.halves_fault.HalvesFault.TheVariants.{NotLive as SendsOn, NotFull as HasRoom, AtLimit as TooDeep, NoBuddy as NoLeftHalf, BuddySplit as NotBeside, TooMany as Together, Memory as NoMemory}
+use Rattle.exh_legal.specs.declared.halves_fault.HalvesFault.TheVariants.{NotLive as SendsOn, NotFull as HasRoom, AtLimit as TooDeep, NoBuddy as NoLeftHalf, BuddySplit as NotBeside, TooMany as Together}
 use Rattle.exh_ward.specs.MergeStep.{IsLeftChild, IsBuddy, HasNoBuddy}
 use Rattle.exh_ward.specs.WardState.{WardState}
 use Rattle.exh_ward.specs.declared.ward_fault.WardFault.{WardFault}
@@ -44,7 +44,6 @@ fault_of_halves TooDeep = AtLimit
 fault_of_halves NoLeftHalf = NoBuddy
 fault_of_halves NotBeside = BuddySplit
 fault_of_halves (Together sum) = TooMany sum
-fault_of_halves NoMemory = Memory
 
 -- the refusals that may come at any point
 abbrev pub IsStoreFault : WardFault → Type 0

@@ -94,7 +94,6 @@ impl From<HalvesFault> for WardFault {
             HalvesFault::NoBuddy => WardFault::NoBuddy,
             HalvesFault::BuddySplit => WardFault::BuddySplit,
             HalvesFault::TooMany(sum) => WardFault::TooMany(sum),
-            HalvesFault::Memory => WardFault::Memory,
         }
     }
 }

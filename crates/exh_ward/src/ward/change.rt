@@ -1,9 +1,9 @@
-ghost use Rattle.std.specs.Prelude.{◌≡◌, ◌≢◌, ◌+◌, ◌<◌, length, slice_set, vec_len, vec_capacity, IfOk, IfErr, OnOk, OnErr};
+ghost use Rattle.std.specs.Prelude.{◌≡◌, ◌≢◌, ◌+◌, ◌<◌, length, vec_len, vec_capacity, IfOk, IfErr, OnOk, OnErr};
 ghost use Rattle.std.specs.FinMap as map;
 ghost use Rattle.exh_table.specs.Table.{entry_after, entry_number, raised};
-ghost use Rattle.exh_page.specs.Page.{IsWellFormed};
+ghost use Rattle.exh_stores.specs.PageStore.{CountsFaults, IfPage, TakesTheSame};
 ghost use Rattle.exh_legal.specs.ChangeNumbers.{index_of, next_notice};
-ghost use Rattle.exh_ward.specs.Told.{IsChangedTo, IsTold};
+ghost use Rattle.exh_ward.specs.Told.{FitChange, IsTold, MayChange, page_changed, pages_changed, twin_changed};
 ghost use Rattle.exh_ward.specs.WardFault.{CountsFailures, IsTakingFault, IsTellingFault};
 ghost use Rattle.exh_ward.specs.WardState.{IsSoundWard, IsUnchanged};
 
@@ -12,9 +12,8 @@ use crate::WardFault;
 use exh_keyer::Keyer;
 use exh_legal::PageIndex;
 use exh_notice::{Entry, Kind, Notice};
-use exh_page::Page;
 use exh_prefix::{PageNo, Prefix};
-use exh_stores::Pages;
+use exh_stores::{Pages, PagesFault};
 use exh_table::Table;
 
 impl<P: Pages + Drop, K: Keyer> Ward<P, K> {
@@ -25,24 +24,18 @@ impl<P: Pages + Drop, K: Keyer> Ward<P, K> {
         self.told + self.notices.len() as u64 + 1
     }
 
-    /// Changes two pages, and tells of it at a prefix. What comes of the pages is legal.
+    /// Changes two pages as a kind of change says, and tells of it at a prefix. What comes of the pages is
+    /// legal.
     pub(super) fn change_two(
         &mut self,
         number: PageNo,
-        page: Page,
         other: PageNo,
-        twin: Page,
         prefix: Prefix,
         kind: Kind,
     ) -> Result<Notice, WardFault>
-        requires there { number < length self.old.pages }
-        requires other_there { other < length self.old.pages }
-        requires apart { number ≢ other }
-        requires formed { IsWellFormed (K.pseudokey_of self.old.keyer) page }
-        requires twin_formed { IsWellFormed (K.pseudokey_of self.old.keyer) twin }
-        requires changed { IsChangedTo (K.pseudokey_of self.old.keyer) self.old (next_notice self.old.number self.old.table prefix kind) (slice_set (slice_set self.old.pages number page) other twin) }
+        requires { MayChange (K.pseudokey_of self.old.keyer) self.old number other prefix kind }
         ensures notice { IfOk result (λ notice. notice ≡ next_notice self.old.number self.old.table prefix kind) }
-        ensures ok { OnOk result (IsTold self.old (next_notice self.old.number self.old.table prefix kind) (slice_set (slice_set self.old.pages number page) other twin) self.new) }
+        ensures ok { OnOk result (IfPage self.old.pages number (λ page. IfPage self.old.pages other (λ twin. IsTold self.old (next_notice self.old.number self.old.table prefix kind) (pages_changed kind prefix number other page twin self.old.pages) self.new))) }
         ensures err { OnErr result (IsUnchanged self.old self.new) }
         ensures fault { IfErr result (IsTellingFault self.old prefix) }
         ensures failures { CountsFailures result self.old.failures self.new.failures }
@@ -50,13 +43,38 @@ impl<P: Pages + Drop, K: Keyer> Ward<P, K> {
     {
         let index = self.next_index();
         let stood = take(&mut self.notices, &mut self.table, prefix, kind)?;
-        if let Err(fault) = self.store.set_two(number, page, other, twin) {
+        if let Err(fault) = write(&mut self.store, number, other, prefix, kind) {
             self.table.put_back(prefix, stood);
             return Err(fault.into());
         }
         let notice = &notice_after(stood, self.number, index, prefix, kind);
         self.notices.push_reserved(*notice);
         Ok(*notice)
+    }
+}
+
+// Has the store make a change of two pages, which is told at a prefix.
+fn write<P: Pages>(
+    store: &mut P,
+    number: PageNo,
+    other: PageNo,
+    prefix: Prefix,
+    kind: Kind,
+) -> Result<(), PagesFault>
+    requires there { number < length (P.pages store.old) }
+    requires other_there { other < length (P.pages store.old) }
+    requires apart { number ≢ other }
+    requires fit { IfPage (P.pages store.old) number (λ page. IfPage (P.pages store.old) other (FitChange kind other page)) }
+    requires taken { IfPage (P.pages store.old) number (λ page. IfPage (P.pages store.old) other (λ twin. P.takes store.old (page_changed kind prefix page twin))) }
+    requires twin_taken { IfPage (P.pages store.old) number (λ page. IfPage (P.pages store.old) other (λ twin. P.takes store.old (twin_changed kind number page twin))) }
+    ensures ok { OnOk result (IfPage (P.pages store.old) number (λ page. IfPage (P.pages store.old) other (λ twin. P.pages store.new ≡ pages_changed kind prefix number other page twin (P.pages store.old)))) }
+    ensures err { OnErr result (P.pages store.new ≡ P.pages store.old) }
+    ensures failures { CountsFaults result (P.failures store.old) (P.failures store.new) }
+    ensures takes { TakesTheSame P.takes store.old store.new }
+{
+    match kind {
+        Kind::Split { .. } => store.split_into(number, other),
+        Kind::Merge => store.merge(prefix, number, other),
     }
 }
 

@@ -2,8 +2,7 @@ ghost use Rattle.std.specs.Prelude.{◌≡◌, ◌^◌, ◌<◌, ◌≤◌, [], 
 ghost use Rattle.exh_prefix.specs.declared.prefix.TheConstants.{WARD_BITS_LIMIT};
 ghost use Rattle.exh_page.specs.declared.page.TheConstants.{CAP_LIMIT};
 ghost use Rattle.exh_page.specs.declared.page.Page.{Page};
-ghost use Rattle.exh_page.specs.Page.{IsWellFormed, low_bound};
-ghost use Rattle.exh_page.specs.PageHead.{head_of};
+ghost use Rattle.exh_page.specs.Page.{IsWellFormed};
 ghost use Rattle.exh_stores.specs.PageStore.{TakesTheSame};
 ghost use Rattle.exh_legal.specs.LegalLaws.{IsWard};
 ghost use Rattle.exh_legal.specs.Pages.{bare, map_of};
@@ -21,7 +20,7 @@ use exh_calls::Journal;
 use exh_join::Join;
 use exh_keyer::Keyer;
 use exh_legal::{PageIndex, entries_are_few, index_of};
-use exh_page::{CAP_LIMIT, PageHead};
+use exh_page::CAP_LIMIT;
 use exh_stores::Pages;
 use exh_table::{Table, own_entries_give_the_table};
 use std::alloc::Global;
@@ -91,17 +90,7 @@ fn read_index<P: Pages>(alloc: Global, store: &mut P) -> Result<PageIndex, WardF
     let mut index = PageIndex::new(alloc);
     for number in 1..store.count() {
         let head = store.head(number)?;
-        index.insert(low_of(head), number)?;
+        index.insert(head.low(), number)?;
     }
     Ok(index)
-}
-
-// The low bound of the page that a head is of.
-fn low_of(head: PageHead) -> u64
-    ensures { (page : Page) → head ≡ head_of page → result ≡ low_bound page }
-{
-    match head {
-        PageHead::Live { prefix, .. } => prefix.low(),
-        PageHead::Forward { low, .. } => low,
-    }
 }

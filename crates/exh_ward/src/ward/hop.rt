@@ -64,9 +64,9 @@ impl<P: Pages + Drop, K: Keyer> Ward<P, K> {
         if at >= self.store.count() {
             return Ok(Hop::Stray);
         }
-        self.store.fetch(at)?;
-        let page = self.store.fetched(at);
-        let HomeSight { full, spot, stood } = match Sight::of(page, self.cap, pseudokey, call) {
+        self.store.reach(at)?;
+        let found = self.store.find(at, pseudokey, call.key());
+        let HomeSight { full, spot, stood } = match Sight::of(found, self.cap, pseudokey, call) {
             Sight::Beyond => return Ok(Hop::Stray),
             Sight::Leads(next) => return Ok(Hop::Moved(next)),
             Sight::NoWay => unreachable!(),
@@ -79,14 +79,14 @@ impl<P: Pages + Drop, K: Keyer> Ward<P, K> {
         Ok(Hop::Done(reply))
     }
 
-    // Answers a call at its home page: makes the change where the search came to, and the journal's entry.
+    // Answers a call at its home page: makes the change where the record stands, and the journal's entry.
     fn answer_at(
         &mut self,
         at: PageNo,
         client: u32,
         call: &Call,
         pseudokey: u64,
-        spot: Result<Spot, Spot>,
+        spot: Option<Spot>,
         change: KeyChange<'_>,
         reply: &Reply,
     ) -> Result<(), WardFault>

@@ -1,18 +1,16 @@
 ghost use Rattle.std.specs.Prelude.{◌≡◌, IfOk, IfErr, OnErr};
-ghost use Rattle.exh_ward.specs.MergeStep.{IsMergeStep};
-ghost use Rattle.exh_ward.specs.WardFault.{MergeRefused, IsStoreFault, CountsFailures};
-ghost use Rattle.exh_ward.specs.JoinedPage.{FitTogether, AreJoined};
+ghost use Rattle.exh_notice.specs.declared.entry.Kind.TheVariants.{Merge};
+ghost use Rattle.exh_ward.specs.MergeStep.{FitTogether, IsMergeStep};
+ghost use Rattle.exh_ward.specs.Told.{MayChange};
+ghost use Rattle.exh_ward.specs.WardFault.{MergeRefused, CountsFailures};
 ghost use Rattle.exh_ward.specs.WardState.{IsSoundWard, IsUnchanged};
 
 use super::Ward;
 use crate::WardFault;
 use exh_keyer::Keyer;
-use exh_legal::{
-    LeftHalf, forward_from_right, join_pages, left_children_link_to_siblings, merges_keep_legal,
-    pages_are_few,
-};
+use exh_legal::{LeftHalf, left_children_link_to_siblings, merges_keep_legal, pages_are_few};
 use exh_notice::{Kind, Notice};
-use exh_page::{Page, PageHead, buddies_unite};
+use exh_page::buddies_unite;
 use exh_prefix::{PageNo, Prefix};
 use exh_stores::Pages;
 
@@ -31,17 +29,16 @@ impl<P: Pages + Drop, K: Keyer> Ward<P, K> {
         ensures sound { IsSoundWard K.pseudokey_of self.new }
     {
         merges_keep_legal();
-        let (parent, right, count) = self.fitting_buddy(page)?;
-        let merged = self.join(page, parent, right, count)?;
-        let forward = forward_from_right(parent, page);
-        self.change_two(page, merged, right, forward, parent, Kind::Merge)
+        let (parent, right) = self.fitting_buddy(page)?;
+        self.change_two(page, right, parent, Kind::Merge)
     }
 
-    // The parent of a page's prefix, the number of the page's right buddy, and how many records that has,
-    // where both pages fit into one. No record of them is read, so that a merge that they refuse takes no
-    // memory. The buddy is found by the page's own right link, so that no table is walked.
-    fn fitting_buddy(&mut self, page: PageNo) -> Result<(Prefix, PageNo, usize), WardFault>
+    // The parent of a page's prefix, and the number of the page's right buddy, where both pages fit into
+    // one. No record of them is read, so that a merge that they refuse takes no memory. The buddy is found
+    // by the page's own right link, so that no table is walked.
+    fn fitting_buddy(&mut self, page: PageNo) -> Result<(Prefix, PageNo), WardFault>
         ensures fit { IfOk result (λ found. FitTogether self.old page found.0 found.1) }
+        ensures may { IfOk result (λ found. MayChange (K.pseudokey_of self.old.keyer) self.old page found.1 found.0 Merge) }
         ensures refused { IfErr result (MergeRefused self.old page) }
         ensures ok { IfOk result (λ _. self.new ≡ self.old) }
         ensures err { OnErr result (IsUnchanged self.old self.new) }
@@ -49,6 +46,9 @@ impl<P: Pages + Drop, K: Keyer> Ward<P, K> {
         ensures sound { IsSoundWard K.pseudokey_of self.new }
     {
         left_children_link_to_siblings();
+        merges_keep_legal();
+        buddies_unite();
+        pages_are_few();
         if page >= self.store.count() {
             return Err(WardFault::NoPage);
         }
@@ -58,34 +58,6 @@ impl<P: Pages + Drop, K: Keyer> Ward<P, K> {
         };
         let buddy = self.store.head(right)?;
         half.test_buddy(buddy, self.cap)?;
-        let PageHead::Live { count, .. } = buddy else {
-            unreachable!()
-        };
-        Ok((half.parent, right, count))
-    }
-
-    // The page of the parent that a merge makes of a page and its right buddy, which has `count` records.
-    // The page is copied with room for these, so that each record is copied once.
-    fn join(
-        &mut self,
-        page: PageNo,
-        parent: Prefix,
-        right: PageNo,
-        count: usize,
-    ) -> Result<Page, WardFault>
-        requires { FitTogether self.old page parent right }
-        ensures united { IfOk result (AreJoined self.old (K.pseudokey_of self.old.keyer) page parent right) }
-        ensures ok { IfOk result (λ _. self.new ≡ self.old) }
-        ensures err { OnErr result (IsUnchanged self.old self.new) }
-        ensures fault { IfErr result IsStoreFault }
-        ensures failures { CountsFailures result self.old.failures self.new.failures }
-        ensures sound { IsSoundWard K.pseudokey_of self.new }
-    {
-        buddies_unite();
-        pages_are_few();
-        self.store.fetch(page)?;
-        let left = self.store.fetched(page).try_clone_with_room(count)?;
-        self.store.fetch(right)?;
-        Ok(join_pages(left, self.store.fetched(right), parent)?)
+        Ok((half.parent, right))
     }
 }

@@ -1,10 +1,5 @@
-ghost use Rattle.std.specs.Prelude.{◌≡◌, ◌<◌, ◌++◌, ◌∷◌, [], length, true, false, Some, IfOk, IfErr, OnErr};
-ghost use Rattle.exh_prefix.specs.declared.prefix.TheConstants.{LIMIT};
-ghost use Rattle.exh_page.specs.declared.page.Page.{Page};
-ghost use Rattle.exh_page.specs.declared.page.Page.TheVariants.{Live};
-ghost use Rattle.exh_legal.specs.Halves.{AreHalvesOf};
-ghost use Rattle.exh_legal.specs.Pages.{IsAt};
-ghost use Rattle.exh_ward.specs.SplitStep.{IsSplitStep};
+ghost use Rattle.std.specs.Prelude.{◌≡◌, IfOk, IfErr, OnErr};
+ghost use Rattle.exh_ward.specs.SplitStep.{IsHalved, IsSplitStep};
 ghost use Rattle.exh_ward.specs.WardFault.{SplitRefused, IsStoreFault, CountsFailures};
 ghost use Rattle.exh_ward.specs.WardState.{IsSoundWard, IsUnchanged};
 
@@ -12,9 +7,8 @@ use super::Ward;
 use super::change::{notice_after, take_or_forget};
 use crate::WardFault;
 use exh_keyer::Keyer;
-use exh_legal::{Halves, live_pages_split, pages_are_few, splits_keep_legal};
+use exh_legal::{halved_prefix, live_pages_split, pages_are_few, splits_keep_legal};
 use exh_notice::{Kind, Notice};
-use exh_page::{Page, Records};
 use exh_prefix::{PageNo, Prefix};
 use exh_stores::Pages;
 
@@ -32,13 +26,13 @@ impl<P: Pages + Drop, K: Keyer> Ward<P, K> {
         ensures failures { CountsFailures result self.old.failures self.new.failures }
         ensures sound { IsSoundWard K.pseudokey_of self.new }
     {
-        let halves = self.halves(page)?;
-        self.place(page, halves)
+        let prefix = self.prefix_to_halve(page)?;
+        self.halve(page, prefix)
     }
 
-    // What a split makes of a page.
-    fn halves(&mut self, page: PageNo) -> Result<Halves, WardFault>
-        ensures halves { IfOk result (λ halves. (old : Page) × IsAt self.old.pages page old × AreHalvesOf self.old.cap old halves) }
+    // The prefix of a page that may be split. No record of it is read.
+    fn prefix_to_halve(&mut self, page: PageNo) -> Result<Prefix, WardFault>
+        ensures halved { IfOk result (IsHalved self.old page) }
         ensures refused { IfErr result (SplitRefused self.old.cap self.old.pages page) }
         ensures ok { IfOk result (λ _. self.new ≡ self.old) }
         ensures err { OnErr result (IsUnchanged self.old self.new) }
@@ -48,14 +42,14 @@ impl<P: Pages + Drop, K: Keyer> Ward<P, K> {
         if page >= self.store.count() {
             return Err(WardFault::NoPage);
         }
-        self.store.fetch(page)?;
-        Ok(Halves::of(self.store.fetched(page), self.cap)?)
+        let head = self.store.head(page)?;
+        Ok(halved_prefix(head, self.cap)?)
     }
 
-    // Puts the halves of a page in its place and at the right child's low bound, which is looked up once,
-    // and tells of it.
-    fn place(&mut self, page: PageNo, halves: Halves) -> Result<Notice, WardFault>
-        requires { (old : Page) × IsAt self.old.pages page old × AreHalvesOf self.old.cap old halves }
+    // Splits a page of this prefix into itself and the page at the right child's low bound, which is looked
+    // up once, and tells of it.
+    fn halve(&mut self, page: PageNo, prefix: Prefix) -> Result<Notice, WardFault>
+        requires { IsHalved self.old page prefix }
         ensures ok { IfOk result (λ notice. IsSplitStep self.old page notice self.new) }
         ensures err { OnErr result (IsUnchanged self.old self.new) }
         ensures fault { IfErr result IsStoreFault }
@@ -65,29 +59,20 @@ impl<P: Pages + Drop, K: Keyer> Ward<P, K> {
         splits_keep_legal();
         live_pages_split();
         pages_are_few();
-        let Halves {
-            prefix,
-            link,
-            left,
-            right,
-        } = halves;
         let low = prefix.child(true).unwrap().low();
         let index = self.next_index();
         let count = self.store.count();
         if let Some(at) = self.index.get_or_insert(low, count)? {
-            let kind = Kind::Split { right: at };
-            let (left, twin) = pages_of(prefix, link, left, right, at);
-            return self.change_two(page, left, at, twin, prefix, kind);
+            return self.change_two(page, at, prefix, Kind::Split { right: at });
         }
         let kind = Kind::Split { right: count };
-        let (left, twin) = pages_of(prefix, link, left, right, count);
         let stood = take_or_forget(
             &mut self.notices,
             &mut self.table,
             &mut self.index,
             (prefix, kind, low),
         )?;
-        if let Err(fault) = self.store.grow_and_set(twin, page, left) {
+        if let Err(fault) = self.store.split_off(page) {
             self.table.put_back(prefix, stood);
             self.index.remove(low);
             return Err(fault.into());
@@ -96,25 +81,4 @@ impl<P: Pages + Drop, K: Keyer> Ward<P, K> {
         self.notices.push_reserved(*notice);
         Ok(*notice)
     }
-}
-
-// The pages of halves, the right one being of number `number`.
-fn pages_of(
-    prefix: Prefix,
-    link: Option<PageNo>,
-    left: Records,
-    right: Records,
-    number: PageNo,
-) -> (Page, Page)
-    requires { length prefix < LIMIT }
-    ensures left { result.0 ≡ Live (prefix ++ false ∷ []) (Some number) left }
-    ensures right { result.1 ≡ Live (prefix ++ true ∷ []) link right }
-{
-    let halves = Halves {
-        prefix,
-        link,
-        left,
-        right,
-    };
-    halves.into_pages(number)
 }

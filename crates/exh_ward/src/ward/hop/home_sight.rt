@@ -5,8 +5,8 @@ use exh_page::{LentValue, Spot};
 pub(crate) struct HomeSight<'a> {
     /// The page has as many records as a page may.
     pub(crate) full: bool,
-    /// Where the record of the key stands, or where it would.
-    pub(crate) spot: Result<Spot, Spot>,
+    /// Where the record of the key stands, if the page has one.
+    pub(crate) spot: Option<Spot>,
     /// The key's value, if it has one.
     pub(crate) stood: Option<LentValue<'a>>,
 }

@@ -1,10 +1,11 @@
-ghost use Rattle.std.specs.Prelude.{◌≡◌, ◌↔◌, IsTrue};
-ghost use Rattle.exh_ward.specs.PageAnswer.{OverflowsWith};
+ghost use Rattle.exh_calls.specs.Call.{key_of};
+ghost use Rattle.exh_page.specs.Lookup.{IsLookup};
+ghost use Rattle.exh_page.specs.declared.page.Page.{Page};
 ghost use Rattle.exh_ward.specs.Sight.{SightOf};
 
 use super::home_sight::HomeSight;
 use exh_calls::Call;
-use exh_page::{LentValue, Page};
+use exh_page::{Lookup, PageHead};
 use exh_prefix::{LIMIT, PageNo};
 
 /// What a call meets at a page.
@@ -23,47 +24,37 @@ pub(crate) enum Sight<'a> {
 }
 
 impl<'a> Sight<'a> {
-    /// What a call of a key with this pseudokey meets at the page. The key is searched once.
-    pub(crate) fn of(page: &'a Page, cap: usize, pseudokey: u64, call: &Call) -> Sight<'a>
-        ensures { SightOf cap pseudokey page.now call.now result }
+    /// What a call of a key with this pseudokey meets at a page that has this for the key.
+    pub(crate) fn of(found: Lookup<'a>, cap: usize, pseudokey: u64, call: &Call) -> Sight<'a>
+        ensures { (page : Page) → IsLookup (pseudokey, key_of call.now) page found.entry → SightOf cap pseudokey page call.now result }
     {
-        if pseudokey < page.low() {
+        let Lookup { head, spot, value } = found;
+        if pseudokey < head.low() {
             return Sight::Beyond;
         }
-        match page {
-            Page::Forward { target, .. } => Sight::Leads(*target),
-            Page::Live {
+        match head {
+            PageHead::Forward { target, .. } => Sight::Leads(target),
+            PageHead::Live {
                 prefix,
                 right,
-                records,
+                count,
             } => {
                 if !prefix.begins(pseudokey) {
                     return match right {
-                        Some(next) => Sight::Leads(*next),
+                        Some(next) => Sight::Leads(next),
                         None => Sight::NoWay,
                     };
                 }
-                let (spot, stood) = records.seek(pseudokey, call.key());
-                if overflows(page, cap, call, &stood) {
+                let full = count >= cap;
+                if full && prefix.len() < LIMIT && call.sets_new() && value.is_none() {
                     return Sight::Overflows;
                 }
-                let full = records.len() >= cap;
-                Sight::Home(HomeSight { full, spot, stood })
+                Sight::Home(HomeSight {
+                    full,
+                    spot,
+                    stood: value,
+                })
             }
         }
-    }
-}
-
-// Whether the call has to wait until its home page is split. `stood`: the value that its key has.
-fn overflows(page: &Page, cap: usize, call: &Call, stood: &Option<LentValue<'_>>) -> bool
-    ensures { IsTrue result ↔ OverflowsWith cap page.now call.now stood.now }
-{
-    match page {
-        Page::Live {
-            prefix,
-            records,
-            ..
-        } => { records.len() >= cap && prefix.len() < LIMIT && call.sets_new() && stood.is_none() }
-        Page::Forward { .. } => false,
     }
 }

@@ -1,9 +1,9 @@
 use Rattle.std.proofs.Common.{◌++◌, ◌∷◌, [], ap, ◌∙◌, subst, refl, sym, ◌<◌, length, Some}
-use Rattle.std.specs.Prelude.{Result}
+use Rattle.std.specs.Prelude.{Option}
 use Rattle.std.proofs.lemmas.Option.{slice_get_within}
 use Rattle.std.proofs.lemmas.Result.{IfOk-from_err}
 use Rattle.exh_page.specs.Page.{records_of}
-use Rattle.exh_page.specs.Search.{IsSought}
+use Rattle.exh_page.specs.Search.{IsStood}
 use Rattle.exh_page.specs.declared.spot.Spot.{Spot}
 use Rattle.exh_legal.specs.Pages.{IsAt}
 use Rattle.exh_ward.specs.HopTable.{HopOf}
@@ -12,7 +12,7 @@ use Rattle.exh_ward.specs.declared.hop.Hop.TheVariants.{Done}
 use Rattle.exh_calls.specs.declared.journal_entry.JournalEntry.{JournalEntry}
 use Rattle.exh_ward.specs.declared.ward_fault.WardFault.TheVariants.{Memory}
 use Rattle.exh_ward.specs.WardFault.{IsStoreFault, fault_of}
-use Rattle.exh_ward.proofs.AnswersAreLeft.{few_pages, answers_here, sought_there, written_taken, stored, reply_there, replied, pages_are, hop_is_done, answered_seen}
+use Rattle.exh_ward.proofs.AnswersAreLeft.{few_pages, answers_here, spot_there, written_taken, stored, reply_there, replied, pages_are, hop_is_done, answered_seen}
 use Rattle.exh_ward.proofs.StepsKeepSound.{kept_read, kept_answered}
 use Rattle.exh_ward.proofs.Exits.{unchanged_written, on_err, memory_counted, live_there, store_fault, store_counted, same_failures}
 use Rattle.exh_ward.proofs.HalvesOfPages.{failed_with}
@@ -26,13 +26,13 @@ write-requires-clause-taken g c =
     let answers = answers_here pseudokey_of c.self.view_is c.self.invariant c.args.at c.args.call.now c.args.pseudokey c.requires.answer.home c.requires.hashed c.requires.answer.seen in
     written_taken fit c.self.invariant answers _ _ c.key.ensures c.requires.answer.change_is (few_pages c.pages_are_few.ensures c.self.invariant)
 
-pub write-requires-clause-sought : goal.write-requires-clause-sought
-write-requires-clause-sought g c page is =
+pub write-requires-clause-stood : goal.write-requires-clause-stood
+write-requires-clause-stood g c page is =
     let pseudokey_of = g.K.Keyer.pseudokey_of in
     let fit = g.met.K.Keyer.pseudokey_fits c.self.inside.keyer in
     let answers = answers_here pseudokey_of c.self.view_is c.self.invariant c.args.at c.args.call.now c.args.pseudokey c.requires.answer.home c.requires.hashed c.requires.answer.seen in
-    let P : Result Spot Spot → Type 0 = λ spot. IsSought (c.args.pseudokey, c.key.result.now) (records_of page) spot in
-    subst P c.requires.answer.spot_is (sought_there fit c.self.invariant answers _ c.key.ensures page is)
+    let P : Option Spot → Type 0 = λ spot. IsStood (c.args.pseudokey, c.key.result.now) (records_of page) spot in
+    subst P c.requires.answer.spot_is (spot_there fit c.self.invariant answers _ c.key.ensures page is)
 
 pub invariant_of-self-in_err-write : goal.invariant_of-self-in_err-write
 invariant_of-self-in_err-write g c = kept_read c.self.invariant _ c.write.ensures.takes _ _ _ c.in_err-write.ensures.err c.reserve.ensures.entries

@@ -1,16 +1,17 @@
-use Rattle.std.proofs.Common.{◌≡◌, ◌+◌, IsSome, refl, sym, ap, ◌∙◌, subst, ◌<◌, length}
+use Rattle.std.proofs.Common.{◌≡◌, ◌+◌, IsSome, refl, sym, ap, ◌∙◌, subst}
 use Rattle.std.specs.Prelude.{slice_set}
 use Rattle.std.specs.FinMap as fin
 use Rattle.std.proofs.lemmas.List.{length-set}
+use Rattle.std.proofs.lemmas.Option.{slice_get_within}
 use Rattle.std.proofs.lemmas.Result.{IfOk-from_err}
-use Rattle.exh_page.specs.Page.{IsWellFormed}
 use Rattle.exh_notice.specs.declared.notice.Notice.{Notice}
 use Rattle.exh_table.specs.Table.{TableMap, entry_number}
 use Rattle.exh_legal.specs.ChangeNumbers.{index_of, next_notice}
-use Rattle.exh_ward.specs.Told.{IsChangedTo}
+use Rattle.exh_legal.specs.Pages.{IsAt}
+use Rattle.exh_ward.specs.Told.{FitChange, page_changed, pages_changed, twin_changed}
 use Rattle.exh_ward.specs.WardState.{WardState}
 use Rattle.exh_ward.specs.WardFault.{IsTellingFault}
-use Rattle.exh_ward.proofs.ChangesAreTold.{kept_told, kept_undone, index_kept, raised_back, stands, unchanged_seen, notice_made, told_more, told_seen, state_of}
+use Rattle.exh_ward.proofs.ChangesAreTold.{both_are, kept_told, kept_undone, index_kept, may_change, raised_back, stands, unchanged_seen, notice_made, told_more, told_seen, state_of}
 use Rattle.exh_ward.proofs.Exits.{taking_counted, taking_tells, storing_tells, made_counted, same_failures, told_here, on_err}
 use Rattle.exh_ward.proofs.HalvesOfPages.{failed_with}
 use Rattle.exh_ward.proofs.ward.Ward.change_two.Goals as goal
@@ -22,12 +23,12 @@ put_back-requires g c =
 
 pub invariant_of-self-in-Err : goal.invariant_of-self-in-Err
 invariant_of-self-in-Err g c =
-    kept_undone c.self.invariant (g.P.Pages.takes c.set_two.new.self) c.set_two.ensures.takes (g.P.Pages.pages c.set_two.new.self) c.take.new.notices.items c.put_back.new.self (g.P.Pages.failures c.set_two.new.self) c.self.inside.index c.in-Err.ensures.err c.take.ensures.items
+    kept_undone c.self.invariant (g.P.Pages.takes c.write.new.store) c.write.ensures.takes (g.P.Pages.pages c.write.new.store) c.take.new.notices.items c.put_back.new.self (g.P.Pages.failures c.write.new.store) c.self.inside.index c.in-Err.ensures.err c.take.ensures.items
     (raised_back c.self.inside.table c.take.new.table c.put_back.new.self c.args.prefix c.args.kind c.in_ok-stood.stood c.in_ok-stood.ensures.stood c.in_ok-stood.ensures.ok c.put_back.ensures) refl
 
 pub returns-in-Err-clause-err : goal.returns-in-Err-clause-err
 returns-in-Err-clause-err g c =
-    unchanged_seen c.self.view_is (g.P.Pages.pages c.set_two.new.self) c.take.new.notices.items c.put_back.new.self (g.P.Pages.failures c.set_two.new.self) c.in-Err.ensures.err c.take.ensures.items
+    unchanged_seen c.self.view_is (g.P.Pages.pages c.write.new.store) c.take.new.notices.items c.put_back.new.self (g.P.Pages.failures c.write.new.store) c.in-Err.ensures.err c.take.ensures.items
     (raised_back c.self.inside.table c.take.new.table c.put_back.new.self c.args.prefix c.args.kind c.in_ok-stood.stood c.in_ok-stood.ensures.stood c.in_ok-stood.ensures.ok c.put_back.ensures)
 
 pub returns-in-Err-clause-sound : goal.returns-in-Err-clause-sound
@@ -35,18 +36,16 @@ returns-in-Err-clause-sound g c = (invariant_of-self-in-Err g c).sound
 
 pub invariant_of-self-2 : goal.invariant_of-self-2
 invariant_of-self-2 g c =
-    let pseudokey_of = g.K.Keyer.pseudokey_of in
     let pages = g.P.Pages.pages c.self.inside.store in
-    let N : WardState g.row.K.Denot → Type 0 = λ w. IsChangedTo (pseudokey_of w.keyer) w (next_notice w.number w.table c.args.prefix c.args.kind) (slice_set (slice_set w.pages c.args.number c.args.page) c.args.other c.args.twin) in
-    let changed = subst N (sym c.self.view_is) c.requires.changed in
-    let new = slice_set (slice_set pages c.args.number c.args.page) c.args.other c.args.twin in
-    let same = length-set (slice_set pages c.args.number c.args.page) c.args.other c.args.twin ∙ length-set pages c.args.number c.args.page in
+    let may = may_change g.K.Keyer.pseudokey_of c.self.view_is c.requires in
+    let new = pages_changed c.args.kind c.args.prefix c.args.number c.args.other may.page may.twin pages in
+    let same = length-set (slice_set pages c.args.number (page_changed c.args.kind c.args.prefix may.page may.twin)) c.args.other (twin_changed c.args.kind c.args.number may.page may.twin) ∙ length-set pages c.args.number (page_changed c.args.kind c.args.prefix may.page may.twin) in
     let notice = next_notice c.self.inside.number c.self.inside.table c.args.prefix c.args.kind in
     let I : WardState g.row.K.Denot → Type 0 = λ w. c.next_index-index.result ≡ index_of w.table + 1 in
     let index_is = subst I (sym c.self.view_is) c.next_index-index.ensures in
     let made = notice_made c.self.inside.number c.self.inside.table c.args.prefix c.args.kind c.in_ok-stood.stood c.in_ok-stood.ensures.stood c.next_index-index.result index_is c.notice_after.result c.notice_after.ensures in
-    kept_told c.self.invariant (g.P.Pages.takes c.set_two.new.self) c.set_two.ensures.takes notice new refl changed (g.P.Pages.pages c.set_two.new.self) c.push_reserved.new.self.items c.take.new.table (g.P.Pages.failures c.set_two.new.self) c.self.inside.index
-    (index_kept c.self.inside.index pages new c.self.invariant.indexed changed.places same) c.in_default.ensures.ok (told_more c.self.inside.notices.items c.take.new.notices.items c.push_reserved.new.self.items c.notice_after.result notice c.push_reserved.ensures.items made c.take.ensures.items) c.in_ok-stood.ensures.ok
+    kept_told c.self.invariant (g.P.Pages.takes c.write.new.store) c.write.ensures.takes notice new refl may.changed (g.P.Pages.pages c.write.new.store) c.push_reserved.new.self.items c.take.new.table (g.P.Pages.failures c.write.new.store) c.self.inside.index
+    (index_kept c.self.inside.index pages new c.self.invariant.indexed may.changed.places same) (c.in_default.ensures.ok may.page may.there may.twin may.twin_there) (told_more c.self.inside.notices.items c.take.new.notices.items c.push_reserved.new.self.items c.notice_after.result notice c.push_reserved.ensures.items made c.take.ensures.items) c.in_ok-stood.ensures.ok
 
 pub returns-clause-sound : goal.returns-clause-sound
 returns-clause-sound g c = (invariant_of-self-2 g c).sound
@@ -76,28 +75,29 @@ returns-in_err-stood-clause-failures g c =
 pub returns-in_err-stood-clause-sound : goal.returns-in_err-stood-clause-sound
 returns-in_err-stood-clause-sound g c = (invariant_of-self g c).sound
 
-pub set_two-requires-clause-there : goal.set_two-requires-clause-there
-set_two-requires-clause-there g c =
-    let P : WardState g.row.K.Denot → Type 0 = λ w. c.args.number < length w.pages in
-    subst P (sym c.self.view_is) c.requires.there
+pub write-requires-clause-there : goal.write-requires-clause-there
+write-requires-clause-there g c = let may = may_change g.K.Keyer.pseudokey_of c.self.view_is c.requires in slice_get_within _ c.args.number may.page may.there
 
-pub set_two-requires-clause-other_there : goal.set_two-requires-clause-other_there
-set_two-requires-clause-other_there g c =
-    let P : WardState g.row.K.Denot → Type 0 = λ w. c.args.other < length w.pages in
-    subst P (sym c.self.view_is) c.requires.other_there
+pub write-requires-clause-other_there : goal.write-requires-clause-other_there
+write-requires-clause-other_there g c = let may = may_change g.K.Keyer.pseudokey_of c.self.view_is c.requires in slice_get_within _ c.args.other may.twin may.twin_there
 
-pub set_two-requires-clause-apart : goal.set_two-requires-clause-apart
-set_two-requires-clause-apart g c = c.requires.apart
+pub write-requires-clause-apart : goal.write-requires-clause-apart
+write-requires-clause-apart g c = c.requires.apart
 
-pub set_two-requires-clause-taken : goal.set_two-requires-clause-taken
-set_two-requires-clause-taken g c =
-    let P : WardState g.row.K.Denot → Type 0 = λ w. IsWellFormed (g.K.Keyer.pseudokey_of w.keyer) c.args.page in
-    c.self.invariant.takes_all c.args.page (subst P (sym c.self.view_is) c.requires.formed)
+pub write-requires-clause-fit : goal.write-requires-clause-fit
+write-requires-clause-fit g c =
+    let may = may_change g.K.Keyer.pseudokey_of c.self.view_is c.requires in
+    both_are _ c.args.number c.args.other may.page may.twin (FitChange c.args.kind c.args.other) may.there may.twin_there may.fit
 
-pub set_two-requires-clause-twin_taken : goal.set_two-requires-clause-twin_taken
-set_two-requires-clause-twin_taken g c =
-    let P : WardState g.row.K.Denot → Type 0 = λ w. IsWellFormed (g.K.Keyer.pseudokey_of w.keyer) c.args.twin in
-    c.self.invariant.takes_all c.args.twin (subst P (sym c.self.view_is) c.requires.twin_formed)
+pub write-requires-clause-taken : goal.write-requires-clause-taken
+write-requires-clause-taken g c =
+    let may = may_change g.K.Keyer.pseudokey_of c.self.view_is c.requires in
+    both_are _ c.args.number c.args.other may.page may.twin (λ page twin. g.P.Pages.takes c.self.inside.store (page_changed c.args.kind c.args.prefix page twin)) may.there may.twin_there (c.self.invariant.takes_all _ may.formed)
+
+pub write-requires-clause-twin_taken : goal.write-requires-clause-twin_taken
+write-requires-clause-twin_taken g c =
+    let may = may_change g.K.Keyer.pseudokey_of c.self.view_is c.requires in
+    both_are _ c.args.number c.args.other may.page may.twin (λ page twin. g.P.Pages.takes c.self.inside.store (twin_changed c.args.kind c.args.number page twin)) may.there may.twin_there (c.self.invariant.takes_all _ may.twin_formed)
 
 pub returns-in-Err-clause-notice : goal.returns-in-Err-clause-notice
 returns-in-Err-clause-notice g c = tt
@@ -111,7 +111,7 @@ returns-in-Err-clause-fault g c =
     subst P (sym c.into.ensures) (storing_tells c.args.self.now c.args.prefix c.in-Err.fault)
 
 pub returns-in-Err-clause-failures : goal.returns-in-Err-clause-failures
-returns-in-Err-clause-failures g c = made_counted c.self.view_is Notice c.into.result c.in-Err.fault (g.P.Pages.failures c.set_two.new.self) c.into.ensures c.in-Err.ensures.failures
+returns-in-Err-clause-failures g c = made_counted c.self.view_is Notice c.into.result c.in-Err.fault (g.P.Pages.failures c.write.new.store) c.into.ensures c.in-Err.ensures.failures
 
 pub notice_after-requires : goal.notice_after-requires
 notice_after-requires g c = λ most. c.in_ok-stood.ensures.more (sym (ap entry_number c.in_ok-stood.ensures.stood) ∙ most)
@@ -127,14 +127,17 @@ returns-clause-notice g c =
     made ∙ ap (λ (w : WardState g.row.K.Denot). next_notice w.number w.table c.args.prefix c.args.kind) c.self.view_is
 
 pub returns-clause-ok : goal.returns-clause-ok
-returns-clause-ok g c =
+returns-clause-ok g c page is twin twin_is =
     let I : WardState g.row.K.Denot → Type 0 = λ w. c.next_index-index.result ≡ index_of w.table + 1 in
     let index_is = subst I (sym c.self.view_is) c.next_index-index.ensures in
     let made = notice_made c.self.inside.number c.self.inside.table c.args.prefix c.args.kind c.in_ok-stood.stood c.in_ok-stood.ensures.stood c.next_index-index.result index_is c.notice_after.result c.notice_after.ensures in
     let notice = next_notice c.self.inside.number c.self.inside.table c.args.prefix c.args.kind in
-    let new = slice_set (slice_set (g.P.Pages.pages c.self.inside.store) c.args.number c.args.page) c.args.other c.args.twin in
-    told_here c.self.view_is c.args.prefix c.args.kind c.args.number c.args.page c.args.other c.args.twin _
-    (told_seen (state_of c.self.view_is) notice new (g.P.Pages.pages c.set_two.new.self) c.push_reserved.new.self.items c.take.new.table (g.P.Pages.failures c.set_two.new.self) c.in_default.ensures.ok (told_more c.self.inside.notices.items c.take.new.notices.items c.push_reserved.new.self.items c.notice_after.result notice c.push_reserved.ensures.items made c.take.ensures.items) c.in_ok-stood.ensures.ok c.in_default.ensures.failures)
+    let A : WardState g.row.K.Denot → Type 0 = λ w. IsAt w.pages c.args.number page in
+    let B : WardState g.row.K.Denot → Type 0 = λ w. IsAt w.pages c.args.other twin in
+    let new = pages_changed c.args.kind c.args.prefix c.args.number c.args.other page twin (g.P.Pages.pages c.self.inside.store) in
+    told_here c.self.view_is c.args.prefix c.args.kind c.args.number (page_changed c.args.kind c.args.prefix page twin) c.args.other (twin_changed c.args.kind c.args.number page twin) _
+    (told_seen (state_of c.self.view_is) notice new (g.P.Pages.pages c.write.new.store) c.push_reserved.new.self.items c.take.new.table (g.P.Pages.failures c.write.new.store) (c.in_default.ensures.ok page (subst A (sym c.self.view_is) is) twin (subst B (sym c.self.view_is) twin_is))
+    (told_more c.self.inside.notices.items c.take.new.notices.items c.push_reserved.new.self.items c.notice_after.result notice c.push_reserved.ensures.items made c.take.ensures.items) c.in_ok-stood.ensures.ok c.in_default.ensures.failures)
 
 pub returns-clause-err : goal.returns-clause-err
 returns-clause-err g c = tt
@@ -143,4 +146,4 @@ pub returns-clause-fault : goal.returns-clause-fault
 returns-clause-fault g c = tt
 
 pub returns-clause-failures : goal.returns-clause-failures
-returns-clause-failures g c = same_failures c.self.view_is (g.P.Pages.failures c.set_two.new.self) c.in_default.ensures.failures
+returns-clause-failures g c = same_failures c.self.view_is (g.P.Pages.failures c.write.new.store) c.in_default.ensures.failures

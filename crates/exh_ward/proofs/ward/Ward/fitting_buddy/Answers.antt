@@ -3,11 +3,14 @@ use Rattle.std.proofs.lemmas.Result.{IfOk-from_err}
 use Rattle.exh_page.specs.declared.page.Page.{Page}
 use Rattle.exh_stores.specs.PageStore.{HasHead}
 use Rattle.exh_ward.specs.WardFault.{MergeRefused, fault_of_halves, fault_of}
-use Rattle.exh_ward.specs.JoinedPage.{FitTogether}
+use Rattle.exh_ward.specs.MergeStep.{FitTogether}
+use Rattle.exh_ward.specs.Told.{MayChange}
+use Rattle.exh_notice.specs.declared.entry.Kind.TheVariants.{Merge}
 use Rattle.exh_ward.specs.WardState.{WardState, IsSoundWard}
 use Rattle.exh_ward.proofs.HalvesOfPages.{refused_as, failed_with}
 use Rattle.exh_ward.proofs.StepsKeepSound.{kept_read, takes_both}
-use Rattle.exh_ward.proofs.MergesAreSteps.{few_counted, few_left, halves_fit, no_left_half, not_beside, own_in_front, right_within, to_sibling}
+use Rattle.exh_ward.proofs.MergesAreSteps.{few_counted, few_left, halves_fit, may_merge, no_left_half, not_beside, own_in_front, right_within, to_sibling}
+use Rattle.exh_ward.proofs.AnswersAreLeft.{few_pages}
 use Rattle.exh_ward.proofs.Exits.{is_past, storing_refuses, store_fault, on_err, unchanged_read, store_counted, halves_counted, same_read, same_failures}
 use Rattle.exh_ward.proofs.ward.Ward.fitting_buddy.Goals as goal
 
@@ -75,8 +78,19 @@ returns-clause-fit g c =
     let P : WardState g.row.K.Denot → Type 0 = λ w. FitTogether w c.args.page c.in_ok-half.half.parent c.in-Some.right in
     subst P c.self.view_is (halves_fit c.self.invariant c.args.page c.in_ok-head.ensures.head c.in_ok-half.ensures.ok c.left_children_link_to_siblings.ensures c.in-Some.is buddy c.in_ok-half.ensures.short c.in_ok-test_buddy.ensures.ok)
 
+pub returns-clause-may : goal.returns-clause-may
+returns-clause-may g c =
+    let L : List Page → Type 0 = λ pages. HasHead pages c.in-Some.right c.in_ok-buddy.buddy in
+    let buddy = subst L c.head.ensures.pages c.in_ok-buddy.ensures.head in
+    let fit = halves_fit c.self.invariant c.args.page c.in_ok-head.ensures.head c.in_ok-half.ensures.ok c.left_children_link_to_siblings.ensures c.in-Some.is buddy c.in_ok-half.ensures.short c.in_ok-test_buddy.ensures.ok in
+    let P : WardState g.row.K.Denot → Type 0 = λ w. MayChange (g.K.Keyer.pseudokey_of w.keyer) w c.args.page c.in-Some.right c.in_ok-half.half.parent Merge in
+    subst P c.self.view_is (may_merge c.self.invariant fit (g.met.K.Keyer.pseudokey_fits _) c.buddies_unite.ensures c.merges_keep_legal.ensures (few_pages c.pages_are_few.ensures c.self.invariant))
+
 pub returns-then-page-count-clause-fit : goal.returns-then-page-count-clause-fit
 returns-then-page-count-clause-fit g c = tt
+
+pub returns-then-page-count-clause-may : goal.returns-then-page-count-clause-may
+returns-then-page-count-clause-may g c = tt
 
 pub returns-then-page-count-clause-ok : goal.returns-then-page-count-clause-ok
 returns-then-page-count-clause-ok g c = tt
@@ -101,6 +115,9 @@ head-requires g c = subst (λ n. c.args.page < n) c.count.ensures c.if-page-coun
 pub returns-in_err-head-clause-fit : goal.returns-in_err-head-clause-fit
 returns-in_err-head-clause-fit g c = IfOk-from_err c.from_residual.result _ c.from_residual.ensures.0
 
+pub returns-in_err-head-clause-may : goal.returns-in_err-head-clause-may
+returns-in_err-head-clause-may g c = IfOk-from_err c.from_residual.result _ c.from_residual.ensures.0
+
 pub returns-in_err-head-clause-ok : goal.returns-in_err-head-clause-ok
 returns-in_err-head-clause-ok g c = IfOk-from_err c.from_residual.result _ c.from_residual.ensures.0
 
@@ -118,6 +135,9 @@ returns-in_err-head-clause-failures g c = store_counted c.self.view_is c.from_re
 pub returns-in_err-half-clause-fit : goal.returns-in_err-half-clause-fit
 returns-in_err-half-clause-fit g c = IfOk-from_err c.from_residual-in_err-half.result _ c.from_residual-in_err-half.ensures.0
 
+pub returns-in_err-half-clause-may : goal.returns-in_err-half-clause-may
+returns-in_err-half-clause-may g c = IfOk-from_err c.from_residual-in_err-half.result _ c.from_residual-in_err-half.ensures.0
+
 pub returns-in_err-half-clause-ok : goal.returns-in_err-half-clause-ok
 returns-in_err-half-clause-ok g c = IfOk-from_err c.from_residual-in_err-half.result _ c.from_residual-in_err-half.ensures.0
 
@@ -133,6 +153,9 @@ returns-in_err-half-clause-sound g c = (invariant_of-self-in_err-half g c).sound
 
 pub returns-in_err-buddy-clause-fit : goal.returns-in_err-buddy-clause-fit
 returns-in_err-buddy-clause-fit g c = IfOk-from_err c.from_residual-in_err-buddy.result _ c.from_residual-in_err-buddy.ensures.0
+
+pub returns-in_err-buddy-clause-may : goal.returns-in_err-buddy-clause-may
+returns-in_err-buddy-clause-may g c = IfOk-from_err c.from_residual-in_err-buddy.result _ c.from_residual-in_err-buddy.ensures.0
 
 pub returns-in_err-buddy-clause-ok : goal.returns-in_err-buddy-clause-ok
 returns-in_err-buddy-clause-ok g c = IfOk-from_err c.from_residual-in_err-buddy.result _ c.from_residual-in_err-buddy.ensures.0
@@ -151,6 +174,9 @@ returns-in_err-buddy-clause-failures g c =
 
 pub returns-in_err-test_buddy-clause-fit : goal.returns-in_err-test_buddy-clause-fit
 returns-in_err-test_buddy-clause-fit g c = IfOk-from_err c.from_residual-in_err-test_buddy.result _ c.from_residual-in_err-test_buddy.ensures.0
+
+pub returns-in_err-test_buddy-clause-may : goal.returns-in_err-test_buddy-clause-may
+returns-in_err-test_buddy-clause-may g c = IfOk-from_err c.from_residual-in_err-test_buddy.result _ c.from_residual-in_err-test_buddy.ensures.0
 
 pub returns-in_err-test_buddy-clause-ok : goal.returns-in_err-test_buddy-clause-ok
 returns-in_err-test_buddy-clause-ok g c = IfOk-from_err c.from_residual-in_err-test_buddy.result _ c.from_residual-in_err-test_buddy.ensures.0
@@ -188,13 +214,7 @@ unreachable-requires g c =
     let sibling = to_sibling c.self.invariant c.args.page c.in_ok-head.ensures.head c.in_ok-half.ensures.ok c.left_children_link_to_siblings.ensures in
     c.in_default.not-Some _ sibling.link_is
 
-pub unreachable-requires-in_default-buddy : goal.unreachable-requires-in_default-buddy
-unreachable-requires-in_default-buddy g c = c.in_default-buddy.not-Live _ _ _ c.in_ok-test_buddy.ensures.ok.live
-
 pub unreachable-unreachable : goal.unreachable-unreachable
 unreachable-unreachable g c =
     let sibling = to_sibling c.self.invariant c.args.page c.in_ok-head.ensures.head c.in_ok-half.ensures.ok c.left_children_link_to_siblings.ensures in
     c.in_default.not-Some _ sibling.link_is
-
-pub unreachable-unreachable-in_default-buddy : goal.unreachable-unreachable-in_default-buddy
-unreachable-unreachable-in_default-buddy g c = c.in_default-buddy.not-Live _ _ _ c.in_ok-test_buddy.ensures.ok.live

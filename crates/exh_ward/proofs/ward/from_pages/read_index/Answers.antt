@@ -9,6 +9,7 @@ use Rattle.exh_ward.specs.declared.ward_fault.WardFault.TheVariants.{Memory}
 use Rattle.exh_ward.proofs.PagesRead.{first_indexed, one_page_more}
 use Rattle.exh_ward.proofs.Exits.{counted_as, fault_counted, store_fault}
 use Rattle.exh_ward.proofs.HalvesOfPages.{failed_with}
+use Rattle.exh_ward.proofs.Heads.{low_headed}
 use Rattle.exh_ward.proofs.ward.from_pages.read_index.Goals as goal
 
 all_read : {number end count : ℕ} → end ≤ number → end ≡ count → count ≤ number
@@ -29,7 +30,7 @@ loop-number-preserved g c =
     let pages = g.P.Pages.pages c.args.store.now in
     let page = ap (λ pages. slice_get pages c.loop-number.number) (sym is.pages) ∙ headed.1 in
     record {
-      index = one_page_more _ _ pages c.loop-number.number c.low_of.result headed.0 c.requires.apart c.loop-number.auto.number page (c.low_of.ensures headed.0 headed.2) is.index c.in_ok-insert.ensures.ok;
+      index = one_page_more _ _ pages c.loop-number.number c.low.result headed.0 c.requires.apart c.loop-number.auto.number page (c.low.ensures ∙ low_headed headed.0 _ headed.2) is.index c.in_ok-insert.ensures.ok;
       pages = c.head.ensures.pages ∙ is.pages;
       failures = c.in_ok-head.ensures.failures ∙ is.failures;
       takes = λ other. (λ x. (c.head.ensures.takes other).0 ((is.takes other).0 x), λ x. (is.takes other).1 ((c.head.ensures.takes other).1 x));
