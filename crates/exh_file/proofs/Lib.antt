@@ -1,5 +1,4 @@
 pub mod OpenLegal
-mod Digests
 -- of all that goes to a file
 pub mod Lists
 pub mod Going

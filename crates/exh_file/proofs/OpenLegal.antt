@@ -1,5 +1,5 @@
 -- The wards that a legal file's pages and tables give.
-use Rattle.std.proofs.Common.{◌≡◌, ℕ, zero, suc, ◌^◌, ◌<◌, List, [], ◌∷◌, ◌++◌, length, map, set, get_or, slice_get, Some, Vec, Global, inl, inr, refl, sym, ap, ◌∙◌, subst, arith}
+use Rattle.std.proofs.Common.{◌≡◌, ℕ, zero, suc, ◌^◌, ◌<◌, List, [], ◌∷◌, ◌++◌, length, map, set, get_or, slice_get, Some, inl, inr, refl, sym, ap, ◌∙◌, subst, arith}
 use Rattle.std.specs.Prelude.{◌⊎◌}
 use Rattle.std.specs.FinMap.{empty}
 use Rattle.std.specs.Option.{option_map}
@@ -43,19 +43,19 @@ pushed (first ∷ items) item other (suc at) is = elim (pushed items item other 
 
 -- ---- one ward more
 
-pub more_opened : (header : Header) (pages : List (Vec Page Global)) (tables : List TableMap) (wards : List (WardState AnyKeyer)) (ward : WardState AnyKeyer) (number : ℕ) (own : Vec Page Global) (table : TableMap)
-    → length wards ≡ number → slice_get pages number ≡ Some own → slice_get tables number ≡ Some table → IsOpenedWard header number own.items table ward → AreOpened header pages tables wards
-    → AreOpened header pages tables (wards ++ ward ∷ [])
-more_opened header pages tables wards ward number own table count at_own at_table made opened at other_own other_table other po pt pw = elim (pushed wards ward other at pw) [
+pub more_opened : {W : Type 0} (pages_of : W → List Page) (header : Header) (pages : List W) (tables : List TableMap) (wards : List (WardState AnyKeyer)) (ward : WardState AnyKeyer) (number : ℕ) (own : W) (table : TableMap)
+    → length wards ≡ number → slice_get pages number ≡ Some own → slice_get tables number ≡ Some table → IsOpenedWard header number (pages_of own) table ward → AreOpened pages_of header pages tables wards
+    → AreOpened pages_of header pages tables (wards ++ ward ∷ [])
+more_opened {W = W} pages_of header pages tables wards ward number own table count at_own at_table made opened at other_own other_table other po pt pw = elim (pushed wards ward other at pw) [
   | inl there ↦ opened at other_own other_table other po pt there
   | inr last ↦
       let here : at ≡ number = last.0 ∙ count in
       let own_is : own ≡ other_own = same_Some own other_own (sym at_own ∙ ap (slice_get pages) (sym here) ∙ po) in
       let table_is : table ≡ other_table = same_Some table other_table (sym at_table ∙ ap (slice_get tables) (sym here) ∙ pt) in
-      subst (λ (n : ℕ). IsOpenedWard header n other_own.items other_table other) (sym here)
-      (subst (λ (w : WardState AnyKeyer). IsOpenedWard header number other_own.items other_table w) (sym last.1)
-      (subst (λ (t : TableMap). IsOpenedWard header number other_own.items t ward) table_is
-      (subst (λ (o : Vec Page Global). IsOpenedWard header number o.items table ward) own_is made)))
+      subst (λ (n : ℕ). IsOpenedWard header n (pages_of other_own) other_table other) (sym here)
+      (subst (λ (w : WardState AnyKeyer). IsOpenedWard header number (pages_of other_own) other_table w) (sym last.1)
+      (subst (λ (t : TableMap). IsOpenedWard header number (pages_of other_own) t ward) table_is
+      (subst (λ (o : W). IsOpenedWard header number (pages_of o) table ward) own_is made)))
 ]
 
 -- ---- a legal file's wards
@@ -71,33 +71,33 @@ legal_ward law file valid legal number pages there =
       formed = all_pages (IsWellFormed pseudo) pages formed;
     }
 
-module _ (file : PageFile) (pages : List (Vec Page Global)) (tables : List TableMap) (valid : IsKnownFile file) (pages_are : file.wards ≡ map (λ (own : Vec Page Global). own.items) pages) (tables_are : tables ≡ ward_tables file) where
+module _ {W : Type 0} (pages_of : W → List Page) (file : PageFile) (pages : List W) (tables : List TableMap) (valid : IsKnownFile file) (pages_are : file.wards ≡ map pages_of pages) (tables_are : tables ≡ ward_tables file) where
   count_pages : length pages ≡ 2 ^ file.header.settings.ward_bits
-  count_pages = sym (length-map pages (λ (own : Vec Page Global). own.items)) ∙ sym (ap length pages_are) ∙ count_of_wards file valid
+  count_pages = sym (length-map pages pages_of) ∙ sym (ap length pages_are) ∙ count_of_wards file valid
 
   pub count_tables : length tables ≡ 2 ^ file.header.settings.ward_bits
   count_tables = ap length tables_are ∙ length-map-range_with_len (table_naming file.entries) 0 (length file.wards) ∙ count_of_wards file valid
 
-  pages_at : (number : ℕ) (own : Vec Page Global) → slice_get pages number ≡ Some own → slice_get file.wards number ≡ Some own.items
-  pages_at number own there = ap (λ (wards : List (List Page)). slice_get wards number) pages_are ∙ slice_get-map (λ (own : Vec Page Global). own.items) pages number ∙ ap (option_map (λ (own : Vec Page Global). own.items)) there
+  pages_at : (number : ℕ) (own : W) → slice_get pages number ≡ Some own → slice_get file.wards number ≡ Some (pages_of own)
+  pages_at number own there = ap (λ (wards : List (List Page)). slice_get wards number) pages_are ∙ slice_get-map pages_of pages number ∙ ap (option_map pages_of) there
 
   table_is : (number : ℕ) (table : TableMap) → slice_get tables number ≡ Some table → table_naming file.entries number ≡ table
   table_is number table there =
       let less : number < length file.wards = omega (arith, slice_get_within tables number table there, count_tables, count_of_wards file valid) in
       sym (get_or-map-range_with_len (table_naming file.entries) 0 (length file.wards) number number empty less (omega arith)) ∙ sym (ap (λ (all : List TableMap). get_or all number empty) tables_are) ∙ get_or_from_slice_get tables number table empty there
 
-  pub legal_wards : LegalFilesPass → IsLegalFile (any_pseudokey file.header.settings.keyer) (parts_in file) → AreLegalWards file.header pages tables
-  legal_wards law legal number own table po pt = subst (λ (t : TableMap). IsLegalWard file.header number own.items t) (table_is number table pt) (legal_ward law file valid legal number own.items (pages_at number own po))
+  pub legal_wards : LegalFilesPass → IsLegalFile (any_pseudokey file.header.settings.keyer) (parts_in file) → AreLegalWards pages_of file.header pages tables
+  legal_wards law legal number own table po pt = subst (λ (t : TableMap). IsLegalWard file.header number (pages_of own) t) (table_is number table pt) (legal_ward law file valid legal number (pages_of own) (pages_at number own po))
 
-  module _ (wards : List (WardState AnyKeyer)) (count : length wards ≡ 2 ^ file.header.settings.ward_bits) (opened : AreOpened file.header pages tables wards) where
+  module _ (wards : List (WardState AnyKeyer)) (count : length wards ≡ 2 ^ file.header.settings.ward_bits) (opened : AreOpened pages_of file.header pages tables wards) where
     is_opened : (number : ℕ) (ward : WardState AnyKeyer) → slice_get wards number ≡ Some ward → IsOpenedWard file.header number (get_or file.wards number []) (table_naming file.entries number) ward
     is_opened number ward there =
         let less = slice_get_within wards number ward there in
         elim (slice_get_cases pages number).1 [
           | inl own ↦ elim (slice_get_cases tables number).1 [
             | inl table ↦
-                subst (λ (list : List Page). IsOpenedWard file.header number list (table_naming file.entries number) ward) (sym (get_or_from_slice_get file.wards number own.0.items [] (pages_at number own.0 own.2)))
-                (subst (λ (t : TableMap). IsOpenedWard file.header number own.0.items t ward) (sym (table_is number table.0 table.2)) (opened number own.0 table.0 ward own.2 table.2 there))
+                subst (λ (list : List Page). IsOpenedWard file.header number list (table_naming file.entries number) ward) (sym (get_or_from_slice_get file.wards number (pages_of own.0) [] (pages_at number own.0 own.2)))
+                (subst (λ (t : TableMap). IsOpenedWard file.header number (pages_of own.0) t ward) (sym (table_is number table.0 table.2)) (opened number own.0 table.0 ward own.2 table.2 there))
             | inr past ↦ absurd (omega (arith, less, past.0, count, count_tables))
           ]
           | inr past ↦ absurd (omega (arith, less, past.0, count, count_pages))

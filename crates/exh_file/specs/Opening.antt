@@ -1,6 +1,5 @@
 -- The wards that opening a page file gives.
-use Rattle.std.specs.Prelude.{⊤, ◌≡◌, ℕ, List, [], length, get_or, slice_get, Option, Some, Vec}
-use Rattle.std.specs.declared.alloc.Global.{Global}
+use Rattle.std.specs.Prelude.{⊤, ◌≡◌, ℕ, List, [], length, get_or, slice_get, Option, Some}
 use Rattle.std.specs.List.{AllByRecursion}
 use Rattle.exh_prefix.specs.Leading.{ward_prefix}
 use Rattle.exh_keyer.specs.Pseudokey.{any_pseudokey}
@@ -45,13 +44,14 @@ pub record IsLegalWard (header : Header) (number : ℕ) (pages : List Page) (tab
   pub legal : IsWard header.settings.cap (any_pseudokey header.settings.keyer) (ward_prefix header.settings.ward_bits number) table [] table pages
   pub formed : AllByRecursion (IsWellFormed (any_pseudokey header.settings.keyer)) pages
 
-abbrev pub AreLegalWards : Header → List (Vec Page Global) → List TableMap → Type 0
-AreLegalWards header pages tables = (number : ℕ) (own : Vec Page Global) (table : TableMap) → slice_get pages number ≡ Some own → slice_get tables number ≡ Some table → IsLegalWard header number own.items table
+-- of wards that say which pages they have
+abbrev pub AreLegalWards : {W : Type 0} → (W → List Page) → Header → List W → List TableMap → Type 0
+AreLegalWards {W} pages_of header pages tables = (number : ℕ) (own : W) (table : TableMap) → slice_get pages number ≡ Some own → slice_get tables number ≡ Some table → IsLegalWard header number (pages_of own) table
 
 -- the wards so far
-abbrev pub AreOpened : Header → List (Vec Page Global) → List TableMap → List (WardState AnyKeyer) → Type 0
-AreOpened header pages tables wards = (number : ℕ) (own : Vec Page Global) (table : TableMap) (ward : WardState AnyKeyer) → slice_get pages number ≡ Some own → slice_get tables number ≡ Some table
-    → slice_get wards number ≡ Some ward → IsOpenedWard header number own.items table ward
+abbrev pub AreOpened : {W : Type 0} → (W → List Page) → Header → List W → List TableMap → List (WardState AnyKeyer) → Type 0
+AreOpened {W} pages_of header pages tables wards = (number : ℕ) (own : W) (table : TableMap) (ward : WardState AnyKeyer) → slice_get pages number ≡ Some own → slice_get tables number ≡ Some table
+    → slice_get wards number ≡ Some ward → IsOpenedWard header number (pages_of own) table ward
 
 -- ---- all wards of a file
 

@@ -1,22 +1,21 @@
-ghost use Rattle.std.specs.Prelude.{◌≡◌, ◌+◌, ◌<◌, ◌≤◌, ◌^◌, List, ℕ, Some, length, map, take, drop, IfOk, IfErr, MatchResult};
+ghost use Rattle.std.specs.Prelude.{◌≡◌, ◌<◌, ◌^◌, List, ℕ, Some, length, map, IfOk, IfErr, MatchResult};
+ghost use Rattle.std.specs.List.{AllByRecursion};
 ghost use Rattle.exh_keyer.specs.Pseudokey.{any_pseudokey};
-ghost use Rattle.exh_codec.specs.PageImage.{page_digest};
 ghost use Rattle.exh_format.specs.FileVersion.{format_of};
 ghost use Rattle.exh_format.specs.HeaderImage.{IsKnownHeader};
-ghost use Rattle.exh_format.specs.FileParts.{HasDigests, file_of, pages_in};
+ghost use Rattle.exh_format.specs.FileParts.{AreTaking, TakesFormed, file_read};
 ghost use Rattle.exh_format.specs.PageFile.{IsKnownFile, PageFile};
 ghost use Rattle.exh_format.specs.Reading.{AreBytes, IsAll};
 ghost use Rattle.exh_legal.specs.ReasonLaws.{IsLegalFile};
 ghost use Rattle.exh_format.specs.LegalFile.{IsLegalPageFile, parts_in, ward_tables};
-ghost use Rattle.exh_file.specs.OpenFault.{IsCounted, IsOtherOpening};
+ghost use Rattle.exh_file.specs.OpenFault.{HasCounted, HasCountedOne, IsCounted, IsOtherOpening};
 ghost use Rattle.exh_file.specs.Opening.{AreLegalWards, AreOpened, IsLegalWard, IsOpenFaultOf, IsOpenedFile, IsOpenedWard};
 
 use crate::{OpenFault, Opened};
-use exh_codec::DIGEST_LEN;
+use exh_codec::ReadPages;
 use exh_format::{Header, LegalFile, push_item, read_legal_file};
 use exh_keyer::AnyKeyer;
-use exh_legal::{legal_files_pass, pages_are_few};
-use exh_page::Page;
+use exh_legal::legal_files_pass;
 use exh_settings::FileSettings;
 use exh_stores::{Pages, StoreMaker};
 use exh_table::Table;
@@ -30,8 +29,8 @@ use std::mem;
 /// its start table is that of the entries which name it. Their stores are the maker's. A block takes at most 4,097
 /// reads.
 ///
-/// `File`: no legal page file was read; the first fault is told. `Page`: a ward's store couldn't reach
-/// a page.
+/// `File`: no legal page file was read; the first fault is told. `Page`: the file is legal, and a store of one of its
+/// wards' pages couldn't reach one, which it has counted.
 pub fn open_over<R: Read, P: Pages + Drop, M: StoreMaker<P, AnyKeyer>>(
     alloc: Global,
     maker: &M,
@@ -41,7 +40,8 @@ pub fn open_over<R: Read, P: Pages + Drop, M: StoreMaker<P, AnyKeyer>>(
     ensures fault { IfErr result (IsOpenFaultOf (R.remaining reader.old)) }
     ensures every { (file : PageFile) (bytes : List ℕ) → R.remaining reader.old ≡ Some bytes → AreBytes bytes → IsLegalPageFile (format_of bytes) file bytes
         → MatchResult result (IsOpenedFile file) IsOtherOpening }
-    ensures counted { IsCounted P.failures result }
+    ensures counted { IfErr result (λ fault. fault ≡ OpenFault.Page → (file : PageFile) × (bytes : List ℕ) × IsAll (R.remaining reader.old) bytes × AreBytes bytes × IsLegalPageFile (format_of bytes) file bytes
+        × HasCountedOne P.pages P.failures file.wards) }
 {
     let mut legal = read_legal_file(alloc, reader)?;
     open_legal(alloc, maker, &mut legal)
@@ -51,21 +51,20 @@ pub fn open_over<R: Read, P: Pages + Drop, M: StoreMaker<P, AnyKeyer>>(
 fn open_legal<P: Pages + Drop, M: StoreMaker<P, AnyKeyer>>(
     alloc: Global,
     maker: &M,
-    legal: &mut LegalFile,
+    legal: &mut LegalFile<M::Read>,
 ) -> Result<Opened<P>, OpenFault>
-    requires legal { IsLegalFile (any_pseudokey legal.old.parts.header.settings.keyer) (parts_in (file_of legal.old.parts)) }
-    requires file { IsKnownFile (file_of legal.old.parts) }
-    requires digests { HasDigests legal.old.parts }
-    requires tables { legal.old.tables.items ≡ ward_tables (file_of legal.old.parts) }
-    ensures opened { IfOk result (IsOpenedFile (file_of legal.old.parts)) }
+    requires legal { IsLegalFile (any_pseudokey legal.old.parts.header.settings.keyer) (parts_in (file_read M.Read.pages legal.old.parts)) }
+    requires file { IsKnownFile (file_read M.Read.pages legal.old.parts) }
+    requires takes { AreTaking M.Read.takes legal.old.parts }
+    requires tables { legal.old.tables.items ≡ ward_tables (file_read M.Read.pages legal.old.parts) }
+    ensures opened { IfOk result (IsOpenedFile (file_read M.Read.pages legal.old.parts)) }
     ensures fault { IfErr result IsOtherOpening }
-    ensures counted { IsCounted P.failures result }
+    ensures counted { IsCounted P.pages P.failures (file_read M.Read.pages legal.old.parts).wards result }
 {
     legal_files_pass();
     let header = legal.parts.header;
     let pages = &mut legal.parts.wards;
-    let digests = &legal.parts.digests;
-    let wards = open_wards(alloc, maker, &header, pages, digests, &mut legal.tables)?;
+    let wards = open_wards(alloc, maker, &header, pages, &mut legal.tables)?;
     Ok(Opened::new(header.settings, wards))
 }
 
@@ -74,40 +73,28 @@ fn open_wards<P: Pages + Drop, M: StoreMaker<P, AnyKeyer>>(
     alloc: Global,
     maker: &M,
     header: &Header,
-    pages: &mut [Vec<Page>],
-    digests: &[[u8; DIGEST_LEN]],
+    pages: &mut [M::Read],
     tables: &mut [Table],
 ) -> Result<Vec<Ward<P, AnyKeyer>>, OpenFault>
     requires header { IsKnownHeader header.now }
     requires pages { length pages.old ≡ 2 ^ header.now.settings.ward_bits }
-    requires digests { digests.now ≡ map page_digest (pages_in pages.old) }
+    requires takes { AllByRecursion (TakesFormed M.Read.takes (any_pseudokey header.now.settings.keyer)) pages.old }
     requires tables { length tables.old ≡ 2 ^ header.now.settings.ward_bits }
-    requires legal { AreLegalWards header.now pages.old tables.old }
+    requires legal { AreLegalWards M.Read.pages header.now pages.old tables.old }
     ensures count { IfOk result (λ wards. length wards.items ≡ 2 ^ header.now.settings.ward_bits) }
-    ensures opened { IfOk result (λ wards. AreOpened header.now pages.old tables.old wards.items) }
+    ensures opened { IfOk result (λ wards. AreOpened M.Read.pages header.now pages.old tables.old wards.items) }
     ensures fault { IfErr result IsOtherOpening }
-    ensures counted { IsCounted P.failures result }
+    ensures counted { IsCounted P.pages P.failures (map M.Read.pages pages.old) result }
 {
+    let keyer = header.settings.keyer;
     let mut wards = Vec::new(alloc);
-    let mut start = 0;
     for number in 0..pages.len() {
-        let own = mem::replace(&mut pages[number], Vec::new(alloc));
+        let own = mem::replace(&mut pages[number], M::Read::empty(alloc, keyer));
         let table = mem::replace(&mut tables[number], Table::new(alloc));
-        let count = own.len();
-        let own_digests = part(digests, start, count);
-        let ward = open_ward(alloc, maker, header, number as u8, own, own_digests, table)?;
+        let ward = open_ward(alloc, maker, header, number as u8, own, table)?;
         push_item(&mut wards, ward)?;
-        start += count;
     }
     Ok(wards)
-}
-
-// So many digests from a place on.
-fn part(digests: &[[u8; DIGEST_LEN]], start: usize, count: usize) -> &[[u8; DIGEST_LEN]]
-    requires { start + count ≤ length digests.now }
-    ensures { result.now ≡ take count (drop start digests.now) }
-{
-    &digests[start..start + count]
 }
 
 // The ward of a number, of its pages and its table.
@@ -116,24 +103,25 @@ fn open_ward<P: Pages + Drop, M: StoreMaker<P, AnyKeyer>>(
     maker: &M,
     header: &Header,
     number: u8,
-    pages: Vec<Page>,
-    digests: &[[u8; DIGEST_LEN]],
+    pages: M::Read,
     table: Table,
 ) -> Result<Ward<P, AnyKeyer>, OpenFault>
     requires header { IsKnownHeader header.now }
     requires number { number < 2 ^ header.now.settings.ward_bits }
-    requires digests { digests.now ≡ map page_digest pages.items }
-    requires legal { IsLegalWard header.now number pages.items table }
-    ensures opened { IfOk result (IsOpenedWard header.now number pages.items table) }
+    requires takes { TakesFormed M.Read.takes (any_pseudokey header.now.settings.keyer) pages }
+    requires legal { IsLegalWard header.now number (M.Read.pages pages) table }
+    ensures opened { IfOk result (IsOpenedWard header.now number (M.Read.pages pages) table) }
     ensures fault { IfErr result IsOtherOpening }
-    ensures counted { IsCounted P.failures result }
+    ensures counted { IfErr result (λ fault. fault ≡ OpenFault.Page → HasCounted P.pages P.failures (M.Read.pages pages)) }
 {
-    pages_are_few();
     let FileSettings {
         cap,
         ward_bits,
         keyer,
     } = header.settings;
-    let store = maker.of_pages(alloc, keyer, pages, digests)?;
-    Ward::from_pages(alloc, cap, ward_bits, number, store, table, keyer).map_err(OpenFault::of_ward)
+    let store = maker.of_read(alloc, pages)?;
+    match Ward::from_pages(alloc, cap, ward_bits, number, store, table, keyer) {
+        Ok(ward) => Ok(ward),
+        Err(fault) => Err(OpenFault::of_ward(fault)),
+    }
 }

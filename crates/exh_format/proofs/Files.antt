@@ -1,5 +1,5 @@
 -- A file from the reads of its parts.
-use Rattle.std.proofs.Common.{◌≡◌, ℕ, ◌+◌, ◌*◌, ◌^◌, ◌<◌, ◌≤◌, inl, inr, true, Vec, List, [], ◌∷◌, ◌++◌, length, map, take, Option, None, Some, IfSome, refl, sym, ap, ◌∙◌, subst, arith}
+use Rattle.std.proofs.Common.{◌≡◌, ℕ, ◌+◌, ◌*◌, ◌^◌, ◌<◌, ◌≤◌, inl, inr, true, List, [], ◌∷◌, ◌++◌, length, map, take, Option, None, Some, IfSome, refl, sym, ap, ◌∙◌, subst, arith}
 use Rattle.std.proofs.lemmas.List.{length-append, length-take}
 use Rattle.std.proofs.lemmas.List.Sums.{sum_by-cons}
 use Rattle.std.proofs.lemmas.List.Folds.{flat_map-map}
@@ -8,8 +8,7 @@ use Rattle.exh_prefix.specs.declared.prefix.TheConstants.{LIMIT}
 use Rattle.std.specs.List.{AllByRecursion, flat_map, sum}
 use Rattle.std.specs.Io.KnownBytes.{Consumes, IsAtEnd}
 use Rattle.std.proofs.KnownBytes.{Consumes-trans, Consumes-whole}
-use Rattle.std.specs.declared.alloc.Global.{Global}
-use Rattle.exh_format.specs.FileParts.{pages_in}
+use Rattle.exh_format.specs.FileParts.{pages_read}
 use Rattle.exh_keyer.specs.Pseudokey.{any_pseudokey}
 use Rattle.exh_notice.specs.declared.entry.Kind.TheVariants.{Merge}
 use Rattle.exh_page.specs.declared.page.Page.{Page}
@@ -158,33 +157,33 @@ module _ (version : FileVersion) (fits : FitsFile version) (pages_law : ImagesPa
 -- ---- a file that was read
 
 -- the pages of each ward, as many as its count
-pub counted : (wards : List (Vec Page Global)) → map length (map (λ ward. ward.items) wards) ≡ map (λ ward. length ward.items) wards
-counted [] = refl
-counted (ward ∷ wards) = ap (λ (rest : List ℕ). length ward.items ∷ rest) (counted wards)
+pub counted : {W : Type 0} (own : W → List Page) (wards : List W) → map length (map own wards) ≡ map (λ ward. length (own ward)) wards
+counted own [] = refl
+counted own (ward ∷ wards) = ap (λ (rest : List ℕ). length (own ward) ∷ rest) (counted own wards)
 
-pub all_pages : (wards : List (Vec Page Global)) → length (pages_in wards) ≡ sum (map (λ ward. length ward.items) wards)
-all_pages [] = refl
-all_pages (ward ∷ wards) = omega (arith, length-append ward.items (pages_in wards), sum_by-cons (λ (count : ℕ). count) (length ward.items) (map (λ ward. length ward.items) wards), all_pages wards)
+pub all_pages : {W : Type 0} (own : W → List Page) (wards : List W) → length (pages_read own wards) ≡ sum (map (λ ward. length (own ward)) wards)
+all_pages own [] = refl
+all_pages own (ward ∷ wards) = omega (arith, length-append (own ward) (pages_read own wards), sum_by-cons (λ (count : ℕ). count) (length (own ward)) (map (λ ward. length (own ward)) wards), all_pages own wards)
 
-module _ (version : FileVersion) (a b c e : Option (List ℕ)) (header : Header) (block : List ℕ) (wards : List (Vec Page Global)) (entries : List FileEntry) where
-  pub file_from : Headed version a b header block → GivesPages version.images (any_pseudokey header.settings.keyer) b c (pages_in wards) → GivesEntries version.images c e (table_blocks header.entry_count) entries
-      → map (λ ward. length ward.items) wards ≡ take (2 ^ header.settings.ward_bits) header.page_counts → length entries ≡ header.entry_count → IsAtEnd e
-      → (bytes : List ℕ) × IsAll a bytes × AreBytes bytes × IsPageFile version (record { header = header; wards = map (λ ward. ward.items) wards; entries = entries }) bytes
+module _ {W : Type 0} (own : W → List Page) (version : FileVersion) (a b c e : Option (List ℕ)) (header : Header) (block : List ℕ) (wards : List W) (entries : List FileEntry) where
+  pub file_from : Headed version a b header block → GivesPages version.images (any_pseudokey header.settings.keyer) b c (pages_read own wards) → GivesEntries version.images c e (table_blocks header.entry_count) entries
+      → map (λ ward. length (own ward)) wards ≡ take (2 ^ header.settings.ward_bits) header.page_counts → length entries ≡ header.entry_count → IsAtEnd e
+      → (bytes : List ℕ) × IsAll a bytes × AreBytes bytes × IsPageFile version (record { header = header; wards = map own wards; entries = entries }) bytes
   unfolding header_block
   file_from headed gives given counts count end =
-      let blocks = flat_map page_block (pages_in wards) in
+      let blocks = flat_map page_block (pages_read own wards) in
       let table = table_bytes version.images (table_blocks header.entry_count) entries in
       let bytes = block ++ (blocks ++ table) in
-      let pages : pages_of (map (λ ward. ward.items) wards) ≡ pages_in wards = flat_map-map (λ (ward : List Page). ward) (λ (ward : Vec Page Global). ward.items) wards in
+      let pages : pages_of (map own wards) ≡ pages_read own wards = flat_map-map (λ (ward : List Page). ward) own wards in
       let consumed : Consumes a e bytes = Consumes-trans a b e block (blocks ++ table) headed.given (Consumes-trans b c e blocks table gives.given given.given) in
-      let file : PageFile = record { header = header; wards = map (λ ward. ward.items) wards; entries = entries } in (
+      let file : PageFile = record { header = header; wards = map own wards; entries = entries } in (
         bytes,
         Consumes-whole a e bytes (λ all. all ≡ bytes) consumed end refl,
         AllByRecursion-append (λ (byte : ℕ). byte < 256) block (blocks ++ table) headed.is.1 (AllByRecursion-append (λ (byte : ℕ). byte < 256) blocks table gives.are_bytes given.are_bytes),
         record {
           valid = record {
             header = headed.image.valid;
-            counts = counted wards ∙ counts;
+            counts = counted own wards ∙ counts;
             pages = subst (AllByRecursion (IsPage version.images (any_pseudokey header.settings.keyer))) (sym pages) gives.valid;
             count = count;
             entries = given.valid;

@@ -15,7 +15,7 @@ use Rattle.exh_page.specs.declared.page.Page.{Page}
 use Rattle.exh_page.specs.declared.page.Page.TheVariants.{Live, Forward}
 use Rattle.exh_page.specs.Page.{IsWellFormed}
 use Rattle.exh_legal.specs.MapLemmas.{page_at}
-use Rattle.exh_codec.specs.PageImage.{IsPage}
+use Rattle.exh_codec.specs.PageImage.{IsBlockOf, IsImage, IsPage}
 use Rattle.exh_format.specs.PageFile.{IsKnownFile, PageFile, pages_of}
 use Rattle.exh_legal.specs.LegalParts.{IsBounded, OfEachWard}
 use Rattle.exh_legal.specs.ReasonLaws.{AreFormed, IsLegalFile, LegalFilesPass}
@@ -48,9 +48,16 @@ zero_past_more fewer more bits less word stored =
     let taken : take more (word_bits bits) ≡ filled = ap (take more) whole ∙ take_at filled (zeros (64 - more)) more many in
     (omega arith, whole ∙ ap (λ (begun : List Bool). begun ++ zeros (64 - more)) (sym taken))
 
-formed : (version : KnownVersion) (pseudo : List ℕ → ℕ) (page : Page) → IsPage (layout version) pseudo page → IsWellFormed pseudo page
+pub formed : (version : KnownVersion) (pseudo : List ℕ → ℕ) (page : Page) → IsPage (layout version) pseudo page → IsWellFormed pseudo page
 formed version pseudo (Live prefix right records) valid = valid.formed
 formed version pseudo (Forward low target) valid = (valid.formed.0, zero_past_more (layout version).limit LIMIT low (layout_short version) (omega arith) valid.formed.1)
+
+-- the page and its block are so in the version that is written
+pub block_of : (version : KnownVersion) (pseudo : List ℕ → ℕ) (page : Page) (block : List ℕ) → IsImage (layout version) pseudo page block → IsBlockOf page block
+block_of version pseudo (Live prefix right records) block image =
+    let range = image.valid.in_range in
+    record { in_range = (omega (arith, range.0, layout_short version), range.1, range.2); whole = image.whole }
+block_of version pseudo (Forward low target) block image = record { in_range = image.valid.in_range; whole = image.whole }
 
 pub pages_formed : (file : PageFile) → IsKnownFile file → OfEachWard (parts_in file) (λ ward table pages. AreFormed (any_pseudokey file.header.settings.keyer) pages)
 pages_formed file (version, valid) number pages there =

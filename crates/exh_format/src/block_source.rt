@@ -1,10 +1,10 @@
-ghost use Rattle.std.specs.Prelude.{◌≡◌, ◌+◌, ◌<◌, ◌^◌, ◌≤◌, ◌++◌, ◌∷◌, ◌↔◌, [], length, vec_len, IfOk, OnOk, IfErr, IsErrOf, IsTrue, IsFalse};
+ghost use Rattle.std.specs.Prelude.{◌≡◌, ◌+◌, ◌<◌, ◌^◌, ◌≤◌, ◌++◌, ◌↔◌, length, vec_len, IfOk, OnOk, IfErr, IsErrOf, IsTrue, IsFalse};
 ghost use Rattle.std.specs.Option.{option_to_list};
 ghost use Rattle.std.specs.Io.KnownBytes.{Consumes, IsAtEnd};
 ghost use Rattle.exh_keyer.specs.Pseudokey.{any_pseudokey};
 ghost use Rattle.exh_prefix.specs.Layout.{layout};
 ghost use Rattle.exh_stream.specs.Source.{ReadsFrom};
-ghost use Rattle.exh_codec.specs.PageImage.{IsImage, page_digest};
+ghost use Rattle.exh_codec.specs.PageImage.{IsImage};
 ghost use Rattle.exh_format.specs.FileVersion.{file_version, format_of};
 ghost use Rattle.exh_format.specs.HeaderImage.{IsHeaderImage};
 ghost use Rattle.exh_format.specs.TableImage.{AreRising, IsTableImage, prefixes_of};
@@ -17,7 +17,7 @@ ghost use Rattle.exh_codec.specs.declared.block.TheConstants.{BLOCK_LEN};
 use crate::{
     BLOCK_ENTRIES, FileEntry, FileFault, Header, ReadFileFault, decode_entries, version_in,
 };
-use exh_codec::{BLOCK_LEN, DIGEST_LEN, decode_page_of, digest_in, images_are_sealed};
+use exh_codec::{BLOCK_LEN, decode_page_of};
 use exh_keyer::AnyKeyer;
 use exh_page::Page;
 use exh_prefix::{Prefix, Version};
@@ -30,22 +30,18 @@ use std::io::Read;
 pub(crate) struct BlockSource<'r, R: Read> {
     source: Source<'r, R>,
     place: u32,
-    /// Of the blocks of the pages that were read.
-    pub(crate) digests: Vec<[u8; DIGEST_LEN]>,
 }
 
 impl<'r, R: Read> BlockSource<'r, R> {
     // The blocks that the reader has, the first of place 0. It takes no memory.
-    pub(crate) fn new(alloc: Global, reader: &'r mut R) -> BlockSource<'r, R>
+    pub(crate) fn new(reader: &'r mut R) -> BlockSource<'r, R>
         ensures reads_from { ReadsFrom result.source reader.entry }
         ensures place { result.place ≡ 0 }
-        ensures digests { result.digests.items ≡ [] }
         ensures open { IsFalse (blocks_failed result) }
     {
         BlockSource {
             source: Source::new(reader),
             place: 0,
-            digests: Vec::new(alloc),
         }
     }
 
@@ -53,7 +49,6 @@ impl<'r, R: Read> BlockSource<'r, R> {
     pub(crate) fn read_header(&mut self) -> Result<(Version, Header), ReadFileFault>
         requires { self.old.place + 1 < 2 ^ 32 }
         ensures place { OnOk result (self.new.place ≡ self.old.place + 1) }
-        ensures digests { self.new.digests ≡ self.old.digests }
         ensures ok { IfOk result (λ found. (block : _) × Consumes (left R.remaining self.old) (left R.remaining self.new) block × IsHeaderImage (file_version found.0) found.1 block × IsBlock block) }
         ensures err { IfErr result (IsOf (NextFails (λ block. HeaderFails (format_of block) block)) (left R.remaining self.old)) }
         ensures failed { IsErrOf result ReadFileFault.Read ↔ IsTrue (blocks_failed self.new) }
@@ -70,29 +65,26 @@ impl<'r, R: Read> BlockSource<'r, R> {
         }
     }
 
-    // The next page, in a version. The digest of its block is kept.
+    // The next page, in a version, and its block.
     pub(crate) fn read_page(
         &mut self,
         alloc: Global,
         version: Version,
         keyer: AnyKeyer,
+        block: &mut [u8; BLOCK_LEN],
     ) -> Result<Page, ReadFileFault>
         requires { self.old.place + 1 < 2 ^ 32 }
         ensures place { OnOk result (self.new.place ≡ self.old.place + 1) }
-        ensures ok { IfOk result (λ page. (block : _) × Consumes (left R.remaining self.old) (left R.remaining self.new) block × IsImage (layout version) (any_pseudokey keyer) page block × IsBlock block) }
-        ensures digests { IfOk result (λ page. self.new.digests.items ≡ self.old.digests.items ++ page_digest page ∷ []) }
+        ensures read { OnOk result (Consumes (left R.remaining self.old) (left R.remaining self.new) block.new) }
+        ensures image { IfOk result (λ page. IsImage (layout version) (any_pseudokey keyer) page block.new) }
+        ensures block { OnOk result (IsBlock block.new) }
         ensures err { IfErr result (IsOf (NextFails (PageFails (layout version) (any_pseudokey keyer) self.old.place)) (left R.remaining self.old)) }
         ensures failed { IsErrOf result ReadFileFault.Read ↔ IsTrue (blocks_failed self.new) }
     {
-        images_are_sealed();
-        let mut block = [0; BLOCK_LEN];
-        self.fill(&mut block)?;
-        match decode_page_of(alloc, version, &keyer, &block) {
+        self.fill(block)?;
+        match decode_page_of(alloc, version, &keyer, block) {
             Ok(page) => {
-                let digest = digest_in(&block);
                 self.place += 1;
-                self.digests.reserve(1)?;
-                self.digests.push_reserved(digest);
                 Ok(page)
             }
             Err(fault) => Err(ReadFileFault::at_place(self.place, fault)),
@@ -144,7 +136,6 @@ impl<'r, R: Read> BlockSource<'r, R> {
     // Reads a whole block.
     fn fill(&mut self, block: &mut [u8; BLOCK_LEN]) -> Result<(), ReadFileFault>
         ensures place { self.new.place ≡ self.old.place }
-        ensures digests { self.new.digests ≡ self.old.digests }
         ensures ok { OnOk result (Consumes (left R.remaining self.old) (left R.remaining self.new) block.new) }
         ensures block { OnOk result (IsBlock block.new) }
         ensures err { IfErr result (IsOf (λ bytes fault. (length bytes < BLOCK_LEN) × (fault ≡ Truncated)) (left R.remaining self.old)) }

@@ -1,15 +1,11 @@
 use crate::{FileEntry, Header};
-use exh_codec::DIGEST_LEN;
-use exh_page::Page;
 
-/// What a page file says.
+/// What a page file says, the pages of each ward being read into a `W`.
 #[derive(Drop)]
-pub struct FileParts {
+pub struct FileParts<W> {
     pub header: Header,
     /// The pages of each ward in the order of their numbers, ward 0 first.
-    pub wards: Vec<Vec<Page>>,
-    /// The digest of the block of each page, in their order, those of ward 0 first.
-    pub digests: Vec<[u8; DIGEST_LEN]>,
+    pub wards: Vec<W>,
     /// The table, in rising order of prefixes.
     pub entries: Vec<FileEntry>,
 }

@@ -13,7 +13,7 @@ pub use legal_file::LegalFile;
 pub use legal_file_fault::LegalFileFault;
 pub use legal_reading::read_legal_file;
 pub use read_file_fault::ReadFileFault;
-pub use reading::read_file;
+pub use reading::{read_file, read_file_into};
 pub use table_block::{BLOCK_ENTRIES, decode_entries};
 pub use table_writer::TableWriter;
 

@@ -51,7 +51,7 @@ pages_are : (wards : List (Vec Page Global)) → pages_of (map (λ ward. ward.it
 pages_are [] = refl
 pages_are (ward ∷ wards) = ap (λ pages. ward.items ++ pages) (pages_are wards)
 
-module _ (parts : FileParts) (known : IsKnownFile (file_of parts)) where
+module _ (parts : FileParts (Vec Page Global)) (known : IsKnownFile (file_of parts)) where
   is : IsFile (file_version known.0) (file_of parts)
   is = known.1
 
@@ -82,7 +82,7 @@ module _ (parts : FileParts) (known : IsKnownFile (file_of parts)) where
   few_records_in_all = omega (arith, few_pages, all_records _ _ (pages_in wards) (subst (AllByRecursion (IsPage _ _)) (pages_are wards) is.pages))
 
 -- the line of a check, of counts that are those of the file
-pub check_line_is : (parts : FileParts) (wards pages live forward records entries : ℕ) → wards ≡ length parts.wards.items → pages ≡ length (pages_in parts.wards.items) → live ≡ live_count (pages_in parts.wards.items)
+pub check_line_is : (parts : FileParts (Vec Page Global)) (wards pages live forward records entries : ℕ) → wards ≡ length parts.wards.items → pages ≡ length (pages_in parts.wards.items) → live ≡ live_count (pages_in parts.wards.items)
     → forward ≡ forward_count (pages_in parts.wards.items) → records ≡ record_count (pages_in parts.wards.items) → entries ≡ length parts.entries.items
     → on_line (legal_words wards pages live forward records entries) ≡ lines_text (check_lines (file_of parts))
 check_line_is parts wards pages live forward records entries w p l f r e =

@@ -9,6 +9,7 @@ use crate::ReportFault;
 use crate::counts::Counts;
 use crate::file_lines::push_legal;
 use exh_format::FileParts;
+use exh_page::Page;
 use exh_stream::Output;
 use std::alloc::{AllocError, Global};
 use std::io::Write;
@@ -17,7 +18,7 @@ use std::io::Write;
 pub(crate) fn check_parts<W: Write>(
     alloc: Global,
     output: &mut Output<'_, W>,
-    parts: &FileParts,
+    parts: &FileParts<Vec<Page>>,
 ) -> Result<(), ReportFault>
     requires open { IsFalse (writer_failed output.old) }
     requires file { IsKnownFile (file_of parts.now) }
@@ -31,7 +32,7 @@ pub(crate) fn check_parts<W: Write>(
     Ok(())
 }
 
-fn push_check(out: &mut Vec<u8>, parts: &FileParts) -> Result<(), AllocError>
+fn push_check(out: &mut Vec<u8>, parts: &FileParts<Vec<Page>>) -> Result<(), AllocError>
     requires { IsKnownFile (file_of parts.now) }
     ensures { OnOk result (out.new.items ≡ out.old.items ++ lines_text (check_lines (file_of parts.now))) }
 {

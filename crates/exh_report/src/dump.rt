@@ -20,7 +20,7 @@ use std::io::Write;
 pub(crate) fn dump_parts<W: Write>(
     alloc: Global,
     output: &mut Output<'_, W>,
-    parts: &FileParts,
+    parts: &FileParts<Vec<Page>>,
 ) -> Result<(), ReportFault>
     requires open { IsFalse (writer_failed output.old) }
     requires file { IsKnownFile (file_of parts.now) }

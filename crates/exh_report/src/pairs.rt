@@ -19,7 +19,7 @@ pub(crate) fn pairs_parts<W: Write>(
     alloc: Global,
     output: &mut Output<'_, W>,
     other: &OtherSettings,
-    parts: &FileParts,
+    parts: &FileParts<Vec<Page>>,
 ) -> Result<(), ReportFault>
     requires open { IsFalse (writer_failed output.old) }
     ensures same_writer { SameWriter output.old output.new }

@@ -16,6 +16,7 @@ use crate::pairs::pairs_parts;
 use crate::refusal_line::push_refusal;
 use crate::{OtherSettings, ReportFault, Verdict};
 use exh_format::{FileParts, LegalFileFault, read_legal_file};
+use exh_page::Page;
 use exh_stream::Output;
 use std::alloc::Global;
 use std::io::{Read, Write};
@@ -135,7 +136,7 @@ fn tell_parts<W: Write>(
     alloc: Global,
     topic: Topic,
     output: &mut Output<'_, W>,
-    parts: &FileParts,
+    parts: &FileParts<Vec<Page>>,
 ) -> Result<Verdict, ReportFault>
     requires open { IsFalse (writer_failed output.old) }
     requires file { IsKnownFile (file_of parts.now) }

@@ -2,7 +2,7 @@ use Rattle.std.proofs.Common.{ℕ, List, Option, subst}
 use Rattle.std.specs.Prelude.{MatchResult}
 use Rattle.std.proofs.lemmas.Result.{IfErr-weaker, IfOk-weaker, MatchResult-from_both}
 use Rattle.exh_format.specs.FileVersion.{version_of}
-use Rattle.exh_format.specs.FileParts.{file_of}
+use Rattle.exh_format.specs.FileParts.{file_read}
 use Rattle.exh_format.specs.declared.legal_file_fault.LegalFileFault.TheVariants.{File as Unread, Illegal, Memory, Read}
 use Rattle.exh_file.specs.declared.open_fault.OpenFault.{OpenFault}
 use Rattle.exh_file.specs.declared.open_fault.OpenFault.TheVariants.{File, Page}
@@ -25,7 +25,7 @@ open_legal-requires-clause-file g c =
 pub returns-clause-opened : goal.returns-clause-opened
 returns-clause-opened g c =
     let read = c.in_ok-legal.ensures.legal in
-    IfOk-weaker c.open_legal.result (IsOpenedFile (file_of c.in_ok-legal.legal.parts)) _ (λ opened is. (file_of c.in_ok-legal.legal.parts, read.0, read.1, read.2, read.3, is)) c.open_legal.ensures.opened
+    IfOk-weaker c.open_legal.result (IsOpenedFile (file_read g.M.Read.PageList.pages c.in_ok-legal.legal.parts)) _ (λ opened is. (file_read g.M.Read.PageList.pages c.in_ok-legal.legal.parts, read.0, read.1, read.2, read.3, is)) c.open_legal.ensures.opened
 
 pub returns-clause-fault : goal.returns-clause-fault
 returns-clause-fault g c =
@@ -36,4 +36,9 @@ pub returns-clause-every : goal.returns-clause-every
 returns-clause-every g c file bytes known are legal =
     let opened = c.open_legal.ensures in
     subst (λ file. MatchResult c.open_legal.result (IsOpenedFile file) IsOtherOpening) (c.in_ok-legal.ensures.every file bytes known are legal)
-    (MatchResult-from_both c.open_legal.result (IsOpenedFile (file_of c.in_ok-legal.legal.parts)) IsOtherOpening opened.opened opened.fault)
+    (MatchResult-from_both c.open_legal.result (IsOpenedFile (file_read g.M.Read.PageList.pages c.in_ok-legal.legal.parts)) IsOtherOpening opened.opened opened.fault)
+
+pub returns-clause-counted : goal.returns-clause-counted
+returns-clause-counted g c =
+    let read = c.in_ok-legal.ensures.legal in
+    IfErr-weaker c.open_legal.result _ _ (λ fault counted page. (file_read g.M.Read.PageList.pages c.in_ok-legal.legal.parts, read.0, read.1, read.2, read.3, counted page)) c.open_legal.ensures.counted

@@ -1,5 +1,4 @@
-use Rattle.std.proofs.Common.{◌≡◌, ◌≤◌, ℕ, length, slice_get, take}
-use Rattle.exh_format.specs.FileParts.{pages_in}
+use Rattle.std.proofs.Common.{◌≡◌, ◌≤◌, ℕ, length, slice_get}
 use Rattle.exh_file.specs.Opening.{AreOpened}
 use Rattle.exh_file.proofs.opening.open_wards.Given as goal
 
@@ -7,8 +6,7 @@ use Rattle.exh_file.proofs.opening.open_wards.Given as goal
 abbrev pub invariant-loop-number : goal.invariant-loop-number
 invariant-loop-number g l = record {
   count : length l.wards.items ≡ l.number;
-  opened : AreOpened l.header l.fn.pages l.fn.tables l.wards.items;
+  opened : AreOpened g.M.Read.PageList.pages l.header l.fn.pages l.fn.tables l.wards.items;
   pages : (at : ℕ) → l.number ≤ at → slice_get l.pages at ≡ slice_get l.fn.pages at;
   tables : (at : ℕ) → l.number ≤ at → slice_get l.tables at ≡ slice_get l.fn.tables at;
-  start : l.start ≡ length (pages_in (take l.number l.fn.pages));
 }

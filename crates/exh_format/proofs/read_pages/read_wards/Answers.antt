@@ -1,19 +1,19 @@
-use Rattle.std.proofs.Common.{◌≡◌, ℕ, ◌+◌, ◌^◌, ◌<◌, ◌≤◌, List, [], ◌∷◌, ◌++◌, Vec, Global, length, map, take, get_or, sym, ap, ◌∙◌, subst, append_assoc, append-nil, arith}
-use Rattle.std.proofs.lemmas.List.{length-append, map-append, map_push, take_all, take_more}
+use Rattle.std.proofs.Common.{◌≡◌, ℕ, ◌+◌, ◌^◌, ◌<◌, ◌≤◌, List, [], ◌∷◌, ◌++◌, length, map, take, get_or, sym, ap, ◌∙◌, subst, append-nil, arith}
+use Rattle.std.proofs.lemmas.List.{length-append, map_push, take_all, take_more}
 use Rattle.std.proofs.lemmas.List.Concat.{flat_map-append}
 use Rattle.std.proofs.lemmas.List.Sums.{sum_by_more}
-use Rattle.std.specs.List.{sum}
+use Rattle.std.specs.List.{AllByRecursion, sum}
 use Rattle.exh_prefix.specs.Layout.{layout}
+use Rattle.exh_prefix.specs.PrefixListLemmas.{AllByRecursion-push}
 use Rattle.exh_keyer.specs.Pseudokey.{any_pseudokey}
-use Rattle.exh_format.specs.FileParts.{pages_in}
+use Rattle.exh_format.specs.FileParts.{TakesFormed, pages_read}
 use Rattle.exh_page.specs.declared.page.Page.{Page}
-use Rattle.exh_codec.specs.PageImage.{page_digest}
 use Rattle.exh_format.specs.Reading.{FailsInPages, GivesPages, IsOf}
 use Rattle.exh_format.proofs.Pages.{fails_later, more_pages, of_later, err_is, failed_so, still_open, sum_more_le}
 use Rattle.exh_format.proofs.read_pages.read_wards.Goals as goal
 
-pages_push : (wards : List (Vec Page Global)) (ward : Vec Page Global) → pages_in (wards ++ ward ∷ []) ≡ pages_in wards ++ ward.items
-pages_push wards ward = flat_map-append (λ (ward : Vec Page Global). ward.items) wards (ward ∷ []) ∙ ap (λ (more : List Page). pages_in wards ++ more) (append-nil ward.items)
+pages_push : {W : Type 0} (own : W → List Page) (wards : List W) (ward : W) → pages_read own (wards ++ ward ∷ []) ≡ pages_read own wards ++ own ward
+pages_push own wards ward = flat_map-append own wards (ward ∷ []) ∙ ap (λ (more : List Page). pages_read own wards ++ more) (append-nil (own ward))
 
 module _ (counts : List ℕ) (at : ℕ) (within : at < length counts) where
   next_sum : sum (take (at + 1) counts) ≡ sum (take at counts) + get_or counts at 0
@@ -34,6 +34,7 @@ read_pages-requires-clause-place g c = place_within c.args.counts.now c.loop-cou
 pub loop-count-preserved : goal.loop-count-preserved
 loop-count-preserved g c =
     let pseudo = any_pseudokey c.args.keyer in
+    let own = g.W.PageList.pages in
     let was = c.loop-count.invariant in
     let read = c.in_ok-pages.ensures in
     let counts = c.args.counts.now in
@@ -41,17 +42,19 @@ loop-count-preserved g c =
     let wards = c.loop-count.wards.items in
     let ward = c.in_ok-pages.pages in
     let within = c.loop-count-test.true in
-    let joined : pages_in c.push_item.new.items.items ≡ pages_in wards ++ ward.items = ap pages_in c.in_ok-push_item.ensures.ok ∙ pages_push wards ward in
+    let now = c.push_item.new.items.items in
+    let Takes = TakesFormed g.W.ReadPages.takes pseudo in
+    let pushed : now ≡ wards ++ ward ∷ [] = c.in_ok-push_item.ensures.ok in
+    let back : wards ++ ward ∷ [] ≡ now = sym pushed in
+    let joined : pages_read own now ≡ pages_read own wards ++ own ward = ap (pages_read own) pushed ∙ pages_push own wards ward in
     record {
       unfailed = still_open ward _ read.failed.1;
       place = next_place counts at within c.args.blocks.now.place was.place read.place;
-      some = ap length joined ∙ length-append (pages_in wards) ward.items ∙ next_count counts at within was.some read.count;
-      counts = ap (map (λ (ward : Vec Page Global). length ward.items)) c.in_ok-push_item.ensures.ok ∙ map_push (λ (ward : Vec Page Global). length ward.items) wards ward ∙ ap (λ (front : List ℕ). front ++ length ward.items ∷ []) was.counts
+      some = ap length joined ∙ length-append (pages_read own wards) (own ward) ∙ next_count counts at within was.some read.count;
+      counts = ap (map (λ ward. length (own ward))) pushed ∙ map_push (λ ward. length (own ward)) wards ward ∙ ap (λ (front : List ℕ). front ++ length (own ward) ∷ []) was.counts
           ∙ ap (λ (last : ℕ). take at counts ++ last ∷ []) read.count ∙ sym (take_more counts at 0 within);
-      given = subst (GivesPages (layout c.args.version) pseudo _ _) (sym joined) (more_pages (layout c.args.version) pseudo _ _ _ (pages_in wards) ward.items was.given read.given);
-      digests = read.digests ∙ ap (λ (known : List (List ℕ)). known ++ map page_digest ward.items) was.digests
-          ∙ append_assoc c.args.blocks.now.digests.items (map page_digest (pages_in wards)) (map page_digest ward.items)
-          ∙ ap (λ (more : List (List ℕ)). c.args.blocks.now.digests.items ++ more) (sym (map-append page_digest (pages_in wards) ward.items) ∙ ap (map page_digest) (sym joined));
+      takes = subst (AllByRecursion Takes) back (AllByRecursion-push Takes wards ward was.takes read.takes);
+      given = subst (GivesPages (layout c.args.version) pseudo _ _) (sym joined) (more_pages (layout c.args.version) pseudo _ _ _ (pages_read own wards) (own ward) was.given read.given);
     }
 
 pub returns-clause-place : goal.returns-clause-place
@@ -69,7 +72,7 @@ returns-in_err-pages-clause-err g c =
     let known = g.R.Read.remaining c.args.blocks.now.source.reader.now in
     let place = c.args.blocks.now.place in
     let counts = c.args.counts.now in
-    let pages = pages_in c.loop-count.wards.items in
+    let pages = pages_read g.W.PageList.pages c.loop-count.wards.items in
     let i = c.loop-count.count-index in
     let within : sum (take i counts) + get_or counts i 0 ≤ sum counts = sum_more_le counts i (omega arith) in
     let there : c.loop-count.blocks.place ≡ place + length pages = omega (arith, c.loop-count.invariant.place, c.loop-count.invariant.some) in

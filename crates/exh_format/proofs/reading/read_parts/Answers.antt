@@ -1,13 +1,12 @@
-use Rattle.std.proofs.Common.{◌≡◌, ◌+◌, ◌^◌, ◌<◌, ◌≤◌, ℕ, ◌*◌, Fits, w64, List, ◌++◌, map, length, take, sym, ap, ◌∙◌, subst, arith}
+use Rattle.std.proofs.Common.{◌≡◌, ◌+◌, ◌^◌, ◌<◌, ◌≤◌, ℕ, ◌*◌, Fits, w64, length, take, sym, ap, ◌∙◌, subst, arith}
 use Rattle.std.specs.List.{sum}
 use Rattle.exh_keyer.specs.Pseudokey.{any_pseudokey}
 use Rattle.exh_prefix.specs.declared.prefix.TheConstants.{LIMIT}
 use Rattle.exh_prefix.specs.Layout.{layout}
-use Rattle.exh_codec.specs.PageImage.{page_digest}
 use Rattle.exh_format.specs.declared.file_fault.FileFault.TheVariants.{Trailing}
 use Rattle.exh_format.specs.FileVersionLemmas.{known_file_fits}
 use Rattle.exh_format.specs.FileVersion.{file_version, format_of}
-use Rattle.exh_format.specs.FileParts.{pages_in}
+use Rattle.exh_format.specs.FileParts.{pages_read}
 use Rattle.exh_format.specs.FileTests.{HeaderFails, IsFault, NextFails}
 use Rattle.exh_format.specs.Reading.{FailsInPages, FailsInTable, IsOf}
 use Rattle.exh_format.specs.HeaderLemmas.{all_counted}
@@ -64,12 +63,6 @@ overflow_cast-header g c = fits_word (few_entries c.in_ok-version.version c.in_o
 pub returns-clause-failed : goal.returns-clause-failed
 returns-clause-failed g c = not_failed c.in_ok-read_end.field-0 _ _ c.in_ok-read_end.ensures.failed.1
 
-pub returns-clause-digests : goal.returns-clause-digests
-returns-clause-digests g c =
-    let pages = pages_in c.in_ok-wards.wards.items in
-    ap (λ digests. digests.items) c.replace-digests.ensures.value ∙ c.in_ok-wards.ensures.digests
-    ∙ ap (λ (front : List (List ℕ)). front ++ map page_digest pages) (ap (λ digests. digests.items) c.in_ok-version.ensures.digests ∙ c.requires.bare)
-
 pub read_table-requires-clause-place : goal.read_table-requires-clause-place
 read_table-requires-clause-place g c =
     let header = c.in_ok-version.header in
@@ -91,11 +84,11 @@ returns-in_err-entries-clause-fault g c =
     let headed : Headed (file_version c.in_ok-version.version) known mid header read.0 = record { given = read.1; image = read.2; is = read.3 } in
     let wards = c.in_ok-wards.wards.items in
     let all : sum (take c.wards_of.result header.page_counts) ≡ sum header.page_counts = ap (λ (n : ℕ). sum (take n header.page_counts)) c.wards_of.ensures.power ∙ all_counted (file_version c.in_ok-version.version) header read.2.valid in
-    let pages : length (pages_in wards) ≡ sum header.page_counts = all_pages wards ∙ ap sum c.in_ok-wards.ensures.counts ∙ all in
+    let pages : length (pages_read g.W.PageList.pages wards) ≡ sum header.page_counts = all_pages g.W.PageList.pages wards ∙ ap sum c.in_ok-wards.ensures.counts ∙ all in
     let place : c.read_wards.new.blocks.place ≡ 1 + sum header.page_counts = omega (arith, c.in_ok-wards.ensures.place, c.in_ok-version.ensures.place, c.requires.place, all) in
     err_is c.from_residual-in_err-entries.result fault (IsOf IsFault known) c.from_residual-in_err-entries.ensures.1
     (of_later (FailsInTable (layout c.in_ok-version.version) c.read_wards.new.blocks.place header.entry_count) IsFault known later fault
-    (λ fault fails. fault_as_said c.in_ok-version.version known mid header read.0 fault headed (fault_of_table (file_version c.in_ok-version.version) (known_file_fits c.in_ok-version.version) c.images_pass.ensures c.images_are_blocks.ensures c.images_pass-2.ensures.tables c.images_are_blocks-2.ensures.tables known mid later header read.0 (pages_in wards) c.read_wards.new.blocks.place header.entry_count fault headed c.in_ok-wards.ensures.given pages place (λ i. header.entry_count) fails))
+    (λ fault fails. fault_as_said c.in_ok-version.version known mid header read.0 fault headed (fault_of_table (file_version c.in_ok-version.version) (known_file_fits c.in_ok-version.version) c.images_pass.ensures c.images_are_blocks.ensures c.images_pass-2.ensures.tables c.images_are_blocks-2.ensures.tables known mid later header read.0 (pages_read g.W.PageList.pages wards) c.read_wards.new.blocks.place header.entry_count fault headed c.in_ok-wards.ensures.given pages place (λ i. header.entry_count) fails))
     c.in_err-entries.ensures.err)
 
 pub returns-in_err-read_end-clause-failed : goal.returns-in_err-read_end-clause-failed
@@ -113,10 +106,10 @@ returns-in_err-read_end-clause-fault g c =
     let headed : Headed (file_version c.in_ok-version.version) known mid header read.0 = record { given = read.1; image = read.2; is = read.3 } in
     let wards = c.in_ok-wards.wards.items in
     let all : sum (take c.wards_of.result header.page_counts) ≡ sum header.page_counts = ap (λ (n : ℕ). sum (take n header.page_counts)) c.wards_of.ensures.power ∙ all_counted (file_version c.in_ok-version.version) header read.2.valid in
-    let pages : length (pages_in wards) ≡ sum header.page_counts = all_pages wards ∙ ap sum c.in_ok-wards.ensures.counts ∙ all in
+    let pages : length (pages_read g.W.PageList.pages wards) ≡ sum header.page_counts = all_pages g.W.PageList.pages wards ∙ ap sum c.in_ok-wards.ensures.counts ∙ all in
     err_is c.from_residual-in_err-read_end.result fault (IsOf IsFault known) c.from_residual-in_err-read_end.ensures.1
     (of_later (λ bytes fault. (0 < length bytes) × (fault ≡ Trailing)) IsFault known last fault
-    (λ fault fails. fault_as_said c.in_ok-version.version known mid header read.0 fault headed (fault_of_end (file_version c.in_ok-version.version) (known_file_fits c.in_ok-version.version) c.images_pass.ensures c.images_are_blocks.ensures c.images_pass-2.ensures.tables c.images_are_blocks-2.ensures.tables known mid late last header read.0 (pages_in wards) c.in_ok-entries.entries.items fault headed c.in_ok-wards.ensures.given c.in_ok-entries.ensures.given pages c.in_ok-entries.ensures.count fails))
+    (λ fault fails. fault_as_said c.in_ok-version.version known mid header read.0 fault headed (fault_of_end (file_version c.in_ok-version.version) (known_file_fits c.in_ok-version.version) c.images_pass.ensures c.images_are_blocks.ensures c.images_pass-2.ensures.tables c.images_are_blocks-2.ensures.tables known mid late last header read.0 (pages_read g.W.PageList.pages wards) c.in_ok-entries.entries.items fault headed c.in_ok-wards.ensures.given c.in_ok-entries.ensures.given pages c.in_ok-entries.ensures.count fails))
     c.in_err-read_end.ensures.err)
 
 pub returns-clause-parts : goal.returns-clause-parts
@@ -130,4 +123,4 @@ returns-clause-parts g c =
     let headed : Headed (file_version c.in_ok-version.version) known mid header read.0 = record { given = read.1; image = read.2; is = read.3 } in
     let wards = c.in_ok-wards.wards.items in
     let counts = c.in_ok-wards.ensures.counts ∙ ap (λ (n : ℕ). take n header.page_counts) c.wards_of.ensures.power in
-    file_as_said c.in_ok-version.version known _ (file_from (file_version c.in_ok-version.version) known mid late last header read.0 wards c.in_ok-entries.entries.items headed c.in_ok-wards.ensures.given c.in_ok-entries.ensures.given counts c.in_ok-entries.ensures.count c.in_ok-read_end.ensures.ok)
+    file_as_said c.in_ok-version.version known _ (file_from g.W.PageList.pages (file_version c.in_ok-version.version) known mid late last header read.0 wards c.in_ok-entries.entries.items headed c.in_ok-wards.ensures.given c.in_ok-entries.ensures.given counts c.in_ok-entries.ensures.count c.in_ok-read_end.ensures.ok)
