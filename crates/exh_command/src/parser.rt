@@ -404,7 +404,7 @@ carries it the notices. At the end it is found out whether the callers' answers
 are those of one history of each ward. It prints one line:
   settled A     they are; A is how many answers there were
   refused N     10 where memory ends, or a thread can't be made; 50 where a call
-                took too many turns; 51 where the answers are not; 11, 52
+                took too many turns; 51 where the answers are not
 
 Exit status: 0 where all is settled; 1 where it is refused; 2 where the command
 line is wrong, or asks for help.

@@ -1,3 +1,5 @@
 mod Calls
+mod Faults
+mod Outcomes
 mod RoundsOn
 mod Sums

@@ -5,6 +5,7 @@ pub use Rattle.exh_live_file.specs.CursorLaws
 pub use Rattle.exh_live_file.specs.LiveFile
 pub use Rattle.exh_live_file.specs.LiveWardLemmas
 pub use Rattle.exh_live_file.specs.Locked
+pub use Rattle.exh_live_file.specs.Refused
 pub use Rattle.exh_live_file.specs.Rounds
 pub use Rattle.exh_live_file.specs.WardOfKey
 pub use Rattle.exh_settings.specs.StormConfig

@@ -15,23 +15,24 @@ use Rattle.exh_live.specs.declared.fault.StormFault.{StormFault}
 use Rattle.exh_live.specs.declared.fault.StormFault.TheVariants.{Memory, Page, Held, Mismatch, Seats}
 
 -- a caller that was refused so: one of its first so many calls was, which was asked through a copy of this start table and these ward bits, and the numbers
--- of both refusals are the same
-abbrev pub IsCallerFault : {K : Type 0} → (K → List ℕ → ℕ) → (List ℕ → ℕ) → TableMap → ℕ → (ℕ → Bool → Type 0) → ℕ → ℕ → StormFault → Type 0
-IsCallerFault {K} pseudokey_of hashing start ward_bits may client calls fault =
+-- of both refusals are the same; a page is out of reach only where one was counted
+abbrev pub IsCallerFault : {K : Type 0} → Type 0 → (K → List ℕ → ℕ) → (List ℕ → ℕ) → TableMap → ℕ → (ℕ → Bool → Type 0) → ℕ → ℕ → StormFault → Type 0
+IsCallerFault {K} counted pseudokey_of hashing start ward_bits may client calls fault =
     (number : ℕ) × (1 ≤ number) × (number ≤ calls) × (old new : HeldByCopy) × (asked : AskFault)
     × IsAsked {K = K} pseudokey_of hashing (IsFirstPage start ward_bits old new) may client (storm_call client number) (Err asked) × (storm_fault_number fault ≡ ask_fault_number asked)
+    × (fault ≡ Page → counted)
 
 -- of the answers that a gate may give at a turn: no at one of the turns from 1 to so many
 abbrev pub MayHold : (ℕ → Bool → Type 0) → ℕ → Type 0
 MayHold may rounds = (turn : ℕ) × (1 ≤ turn) × (turn ≤ rounds) × may turn false
 
--- what a keeper may be refused for in so many rounds
-abbrev pub IsKeeperFault : (ℕ → Bool → Type 0) → ℕ → StormFault → Type 0
-IsKeeperFault may rounds Held = MayHold may rounds
-IsKeeperFault may rounds Memory = ⊤
-IsKeeperFault may rounds Page = ⊤
-IsKeeperFault may rounds Mismatch = ⊥
-IsKeeperFault may rounds Seats = ⊥
+-- what a keeper may be refused for in so many rounds; a page out of reach only where one was counted
+abbrev pub IsKeeperFault : Type 0 → (ℕ → Bool → Type 0) → ℕ → StormFault → Type 0
+IsKeeperFault counted may rounds Held = MayHold may rounds
+IsKeeperFault counted may rounds Memory = ⊤
+IsKeeperFault counted may rounds Page = counted
+IsKeeperFault counted may rounds Mismatch = ⊥
+IsKeeperFault counted may rounds Seats = ⊥
 
 -- what a courier may be refused for in so many rounds
 abbrev pub IsCourierFault : (ℕ → Bool → Type 0) → ℕ → StormFault → Type 0
@@ -40,14 +41,6 @@ IsCourierFault may rounds Memory = ⊤
 IsCourierFault may rounds Page = ⊥
 IsCourierFault may rounds Mismatch = ⊥
 IsCourierFault may rounds Seats = ⊥
-
--- why there are no workers: want of memory, or no seat or no place at a copy is left
-abbrev pub IsWorkersFault : StormFault → Type 0
-IsWorkersFault Memory = ⊤
-IsWorkersFault Seats = ⊤
-IsWorkersFault Page = ⊥
-IsWorkersFault Held = ⊥
-IsWorkersFault Mismatch = ⊥
 
 -- so many rounds of a keeper, before each of which the gate may say yes at its turn, from 1 on; each made some merges
 abbrev pub AreKeeperRounds : {K : Type 0} → (K → List ℕ → ℕ) → (ℕ → Bool → Type 0) → ℕ → Type 0

@@ -1,4 +1,6 @@
 ghost use Rattle.std.specs.Prelude.{◌≡◌, [], IfOk, IfErr};
+ghost use Rattle.exh_live_file.specs.Refused.{IsSomeWardsFault};
+ghost use Rattle.exh_ward.specs.declared.ward_fault.WardFault.TheVariants.{Page as OutOfReach};
 ghost use Rattle.exh_live.specs.StormCalls.{IsServed};
 ghost use Rattle.exh_live.specs.StormRounds.{IsCallerFault};
 
@@ -22,7 +24,8 @@ pub struct Caller<F: Identity, S: Start> {
 impl<F: Identity, S: Start> Caller<F, S> {
     /// Makes the caller's first so many calls, one after the other, and gives its seat back. The file is
     /// that of the seat, and the watch is told of each answer. It ends with the first call that is
-    /// refused: `Held`, `Memory`, `Page`. It may wait for other workers.
+    /// refused, as `ask` may be: `Held`, `Memory`, and `Page`, where a store of the wards' kind has counted a failure.
+    /// It may wait for other workers.
     pub fn run<R: Wait, P: Pages + Drop, K: Keyer, G: Gate, W: Watch>(
         self,
         rt: &R,
@@ -33,7 +36,7 @@ impl<F: Identity, S: Start> Caller<F, S> {
     ) -> Result<Seat<F>, StormFault>
         ensures served { IfOk result (IsServed calls) }
         ensures client { IfOk result (λ seat. seat.client ≡ self.seat.client) }
-        ensures fault { IfErr result (IsCallerFault K.pseudokey_of F.hashing S.table S.ward_bits (G.may gate.now self.seat.client) self.seat.client calls) }
+        ensures fault { IfErr result (IsCallerFault (IsSomeWardsFault P.failures K.pseudokey_of OutOfReach) K.pseudokey_of F.hashing S.table S.ward_bits (G.may gate.now self.seat.client) self.seat.client calls) }
     {
         let Caller { mut seat, mut copy } = self;
         let client = seat.diary().client();

@@ -1,10 +1,11 @@
 //! The new file of a storm, and what it leaves.
-ghost use Rattle.std.specs.Prelude.{◌≡◌, ◌<◌, ◌^◌, map, IfOk, OnOk};
+ghost use Rattle.std.specs.Prelude.{◌≡◌, ◌<◌, ◌^◌, map, IfOk, IfErr, OnOk};
 ghost use Rattle.exh_prefix.specs.Leading.{ward_of};
 ghost use Rattle.exh_calls.specs.Settled.{IsSettled, answer_count};
 ghost use Rattle.exh_keyer.specs.Pseudokey.{sha_pseudokey};
 ghost use Rattle.exh_live_file.specs.declared.ledgers.TheConstants.{ANSWER_PARTS, ENTRY_PARTS};
 ghost use Rattle.exh_settings.specs.StormConfig.{IsStormConfig};
+ghost use Rattle.exh_live.specs.declared.fault.StormFault.TheVariants.{Mismatch as NotSettled};
 
 use crate::StormFault;
 use exh_calls::{Diary, settle};
@@ -66,6 +67,7 @@ pub(crate) fn settled<P: Pages + Drop>(
     requires few { answer_count diaries.now < 2 ^ 64 }
     ensures settled { OnOk result (IsSettled (λ key. ward_of config.now.ward_bits (sha_pseudokey key)) (map (λ ward. ward.journal) wards.now) diaries.now) }
     ensures count { IfOk result (λ count. count ≡ answer_count diaries.now) }
+    ensures fault { IfErr result (λ fault. (fault ≡ NotSettled) × (¬ IsSettled (λ key. ward_of config.now.ward_bits (sha_pseudokey key)) (map (λ ward. ward.journal) wards.now) diaries.now)) }
 {
     let journals = WardJournals {
         ward_bits: config.ward_bits,

@@ -1,4 +1,6 @@
 ghost use Rattle.std.specs.Prelude.{◌+◌, ◌^◌, ◌<◌, IfOk, IfErr};
+ghost use Rattle.exh_live_file.specs.Refused.{IsSomeWardsFault};
+ghost use Rattle.exh_ward.specs.declared.ward_fault.WardFault.TheVariants.{Page as OutOfReach};
 ghost use Rattle.exh_live.specs.StormRounds.{AreKeeperRounds, IsKeeperFault};
 ghost use Rattle.exh_live.specs.declared.keeper.TheConstants.{KEEPER_CLIENT};
 
@@ -21,7 +23,8 @@ pub struct Keeper {
 impl Keeper {
     /// Makes so many rounds over its ward, which is one of the file. Before each it asks the gate, as the
     /// client of its ward, at turns 1, 2, ..; after each it tells the watch its merges. Refused, with the
-    /// merges made kept: `Held` where the gate says no, `Memory`, `Page`. It may wait for other workers.
+    /// merges made kept: `Held` where the gate says no; at any point `Memory`; and `Page`, where a store of the
+    /// wards' kind has counted a failure. It may wait for other workers.
     pub fn run<R: Wait, P: Pages + Drop, K: Keyer, F: Identity, G: Gate, W: Watch>(
         self,
         rt: &R,
@@ -32,7 +35,7 @@ impl Keeper {
     ) -> Result<(), StormFault>
         requires { self.ward < 2 ^ file.now.ward_bits }
         ensures rounds { IfOk result (λ _. AreKeeperRounds K.pseudokey_of (G.may gate.now (KEEPER_CLIENT + self.ward)) rounds) }
-        ensures fault { IfErr result (IsKeeperFault (G.may gate.now (KEEPER_CLIENT + self.ward)) rounds) }
+        ensures fault { IfErr result (IsKeeperFault (IsSomeWardsFault P.failures K.pseudokey_of OutOfReach) (G.may gate.now (KEEPER_CLIENT + self.ward)) rounds) }
     {
         for done in 0..rounds {
             if !gate.pass(KEEPER_CLIENT + u32::from(self.ward), done + 1) {

@@ -1,15 +1,18 @@
-ghost use Rattle.std.specs.Prelude.{◌≡◌, ◌≤◌, ◌*◌, All, IfOk, OnOk};
+ghost use Rattle.std.specs.Prelude.{◌≡◌, ◌≢◌, ◌⊎◌, ◌≤◌, ◌*◌, ◌^◌, length, All, IfOk, IfErr, OnOk};
 ghost use Rattle.std.specs.FinMap as map;
 ghost use Rattle.exh_keyer.specs.Pseudokey.{sha_pseudokey};
+ghost use Rattle.exh_live_file.specs.Closing.{AreInOrder, answers_given, entries_made};
 ghost use Rattle.exh_live_file.specs.declared.ledgers.TheConstants.{ANSWER_PARTS, ENTRY_PARTS};
 ghost use Rattle.exh_calls.specs.Settled.{answer_count};
+ghost use Rattle.exh_live.specs.Refusals.{HasCounted, IsStormFault, IsUnsettled, IsWorkersFault};
+ghost use Rattle.exh_live.specs.declared.fault.StormFault.TheVariants.{Memory, Mismatch as NotSettled};
 ghost use Rattle.exh_live.specs.StormCalls.{AreServed, IsServed};
 ghost use Rattle.exh_live.specs.StormLeft.{IsLeft};
 ghost use Rattle.exh_settings.specs.StormConfig.{IsStormConfig};
 
 use crate::file::{StormFile, StormLeft, new_file, settled};
 use crate::overseers::Overseers;
-use crate::threads::{Rounds, run_all};
+use crate::threads::run_all;
 use crate::workers::new_workers;
 use crate::{NoWatch, StormFault, Watch};
 use exh_copy::Start;
@@ -34,7 +37,9 @@ pub fn storm<R: Threads + Wait + Sync, G: Gate + Sync>(
     gate: &G,
 ) -> Result<u64, StormFault>
     requires { IsStormConfig config.now }
-    ensures { IfOk result (λ count. count ≡ config.now.callers * config.now.calls) }
+    ensures count { IfOk result (λ count. count ≡ config.now.callers * config.now.calls) }
+    ensures fault { IfErr result (IsStormFault ⊥ (G.may gate.now) config.now) }
+    ensures reached { IfErr result (λ fault. fault ≢ StormFault.Page) }
 {
     storm_over(rt, alloc, &MAKER, config, gate, &NoWatch)
 }
@@ -55,7 +60,10 @@ pub fn storm_over<
     watch: &W,
 ) -> Result<u64, StormFault>
     requires { IsStormConfig config.now }
-    ensures { IfOk result (λ count. count ≡ config.now.callers * config.now.calls) }
+    ensures count { IfOk result (λ count. count ≡ config.now.callers * config.now.calls) }
+    ensures fault { IfErr result (IsStormFault (HasCounted P.failures) (G.may gate.now) config.now) }
+    ensures counted { IfErr result (λ fault. fault ≡ StormFault.Page → HasCounted P.failures) }
+    ensures seats { IfErr result (λ fault. fault ≢ StormFault.Seats) }
 {
     match storm_left(rt, alloc, maker, config, gate, watch) {
         Ok(left) => Ok(left.answers),
@@ -86,7 +94,8 @@ pub fn storm_left<
     watch: &W,
 ) -> Result<StormLeft<P>, StormFault>
     requires { IsStormConfig config.now }
-    ensures { IfOk result (λ left. IsLeft config.now left.closed.wards.items left.closed.diaries.items left.answers) }
+    ensures left { IfOk result (λ left. IsLeft config.now left.closed.wards.items left.closed.diaries.items left.answers) }
+    ensures fault { IfErr result (IsStormFault (HasCounted P.failures) (G.may gate.now) config.now) }
 {
     let answers = Blank::new(ANSWER_PARTS);
     let entries = Blank::new(ENTRY_PARTS);
@@ -118,7 +127,8 @@ fn storm_of<
     requires hashed { F.hashing ≡ sha_pseudokey }
     requires bits { S.ward_bits ≡ config.now.ward_bits }
     requires table { S.table ≡ map.empty }
-    ensures { IfOk result (λ left. IsLeft config.now left.closed.wards.items left.closed.diaries.items left.answers) }
+    ensures left { IfOk result (λ left. IsLeft config.now left.closed.wards.items left.closed.diaries.items left.answers) }
+    ensures fault { IfErr result (IsStormFault (HasCounted P.failures) (G.may overseers.entry.gate.now) config.now) }
 {
     let mut file = new_file::<P, M, F>(alloc, maker, config, answers, entries)?;
     match serve::<R, P, G, W, F, S>(rt, alloc, config, overseers, &mut file) {
@@ -143,18 +153,18 @@ fn serve<
     file: &mut StormFile<P, F>,
 ) -> Result<Vec<Seat<F>>, StormFault>
     requires config { IsStormConfig config.now }
+    requires hashed { F.hashing ≡ sha_pseudokey }
     requires bits { S.ward_bits ≡ config.now.ward_bits }
     requires table { S.table ≡ map.empty }
     requires file { (file.old.ward_bits ≡ config.now.ward_bits) × (file.old.seats ≡ 0) }
+    ensures bits { file.new.ward_bits ≡ config.now.ward_bits }
     ensures seats { OnOk result (file.new.seats ≡ config.now.callers) }
     ensures served { IfOk result (λ seats. All (IsServed config.now.calls) seats.items) }
+    ensures all { IfOk result (λ seats. length seats.items ≡ config.now.callers) }
+    ensures fault { IfErr result (λ fault. (fault ≡ Memory) ⊎ IsWorkersFault (HasCounted P.failures) (G.may overseers.entry.gate.now) config.now fault) }
 {
     let workers = new_workers::<R, P, F, S>(rt, alloc, config, file)?;
-    let rounds = Rounds {
-        count: config.calls,
-        ward_bits: config.ward_bits,
-    };
-    run_all(rt, alloc, file, workers, rounds, overseers)
+    run_all(rt, alloc, file, workers, *config, overseers)
 }
 
 // Closes the file, with the seats of all its callers, and settles what it leaves.
@@ -164,9 +174,12 @@ fn close<P: Pages + Drop, F: Identity>(
     seats: Vec<Seat<F>>,
 ) -> Result<StormLeft<P>, StormFault>
     requires config { IsStormConfig config.now }
+    requires bits { file.ward_bits ≡ config.now.ward_bits }
     requires seats { file.seats ≡ config.now.callers }
     requires served { All (IsServed config.now.calls) seats.items }
-    ensures { IfOk result (λ left. IsLeft config.now left.closed.wards.items left.closed.diaries.items left.answers) }
+    requires all { length seats.items ≡ config.now.callers }
+    ensures left { IfOk result (λ left. IsLeft config.now left.closed.wards.items left.closed.diaries.items left.answers) }
+    ensures fault { IfErr result (λ fault. (fault ≡ Memory) ⊎ ((fault ≡ NotSettled) × IsUnsettled config.now)) }
 {
     match file.close(seats) {
         Ok(closed) => left(config, closed),
@@ -182,7 +195,11 @@ fn left<P: Pages + Drop>(
     requires config { IsStormConfig config.now }
     requires all { answer_count closed.diaries.items ≡ config.now.callers * config.now.calls }
     requires served { AreServed config.now.calls closed.diaries.items }
-    ensures { IfOk result (λ left. IsLeft config.now left.closed.wards.items left.closed.diaries.items left.answers) }
+    requires wards { (length closed.wards.items ≡ 2 ^ config.now.ward_bits) × AreInOrder closed.wards.items }
+    requires callers { length closed.diaries.items ≡ config.now.callers }
+    requires equally_many { entries_made closed.wards.items ≡ answers_given closed.diaries.items }
+    ensures left { IfOk result (λ left. IsLeft config.now left.closed.wards.items left.closed.diaries.items left.answers) }
+    ensures fault { IfErr result (λ fault. (fault ≡ NotSettled) × IsUnsettled config.now) }
 {
     let wards = closed.wards.as_slice();
     let diaries = closed.diaries.as_slice();

@@ -1,8 +1,13 @@
 //! All workers of a storm at once, each on a thread of its own.
-ghost use Rattle.std.specs.Prelude.{◌≡◌, ◌≤◌, [], All, IfOk};
+ghost use Rattle.std.specs.Prelude.{◌≡◌, ◌⊎◌, ◌+◌, ◌^◌, ◌≤◌, ◌++◌, Ok, Err, length, All, IfOk, IfErr, MatchResult};
+ghost use Rattle.std.specs.FinMap as map;
+ghost use Rattle.exh_keyer.specs.Pseudokey.{sha_pseudokey};
 ghost use Rattle.exh_prefix.specs.declared.prefix.TheConstants.{WARD_BITS_LIMIT};
-ghost use Rattle.exh_live.specs.Refusals.{first_refusal};
+ghost use Rattle.exh_live_file.specs.CursorPlaceLemmas.{AreFirst};
+ghost use Rattle.exh_live.specs.Refusals.{HasCounted, IsRefusedCaller, IsRefusedCourier, IsRefusedKeeper, IsWorkersFault, first_refusal};
 ghost use Rattle.exh_live.specs.StormCalls.{IsServed};
+ghost use Rattle.exh_live.specs.StormRounds.{IsCourierFault};
+ghost use Rattle.exh_live.specs.declared.courier.TheConstants.{COURIER_CLIENT};
 ghost use Rattle.exh_live.specs.declared.fault.StormFault.TheVariants.{Memory};
 
 use crate::file::StormFile;
@@ -11,48 +16,67 @@ use crate::workers::Workers;
 use crate::{Caller, Courier, Keeper, StormFault, Watch};
 use exh_copy::Start;
 use exh_live_file::{Identity, Seat};
+use exh_settings::StormConfig;
 use exh_stores::Pages;
 use exh_walk::Gate;
 use std::alloc::{AllocError, Global};
+use std::marker::PhantomData;
+use std::snapshot::Snapshot;
 use std::sync::Wait;
-use std::thread::{self, JoinHandle, Promise, PromisedHandle, Scope, Threads};
+use std::thread::{self, Promise, PromisedHandle, Scope, Threads};
 
-/// What all workers of a storm have in common: how many rounds each of them makes, and the file's ward
-/// bits.
-#[derive(Clone, Copy)]
-pub(crate) struct Rounds {
-    pub(crate) count: u32,
-    pub(crate) ward_bits: u8,
+// Which worker of a storm a thread is: its number, as a caller, of its ward or of its copy, the storm's settings, the
+// gate that it asks, and of which kind the stores are. What it promises goes by what the thread gives.
+#[derive(Drop)]
+struct Worker<P, G> {
+    number: u32,
+    config: StormConfig,
+    gate: Snapshot<G>,
+    stores: PhantomData<P>,
 }
 
-// What a caller's thread promises: where it isn't refused, its seat was answered its first so many calls.
-#[derive(Clone, Copy)]
-struct Serves {
-    calls: u32,
-}
-
-impl<F: Identity> Promise<Result<Seat<F>, StormFault>> for Serves {
-    ghost use Rattle.std.specs.Prelude.{IfOk};
+// A caller's thread gives its seat, which was answered its calls, or is refused as that caller may be.
+impl<P: Pages + Drop, G: Gate, F: Identity> Promise<Result<Seat<F>, StormFault>> for Worker<P, G> {
+    ghost use Rattle.std.specs.Prelude.{IfOk, IfErr};
+    ghost use Rattle.exh_live.specs.Refusals.{HasCounted, IsRefusedCaller};
     ghost use Rattle.exh_live.specs.StormCalls.{IsServed};
 
-    ghost kept_by = { λ promise result. IfOk result (IsServed promise.calls) };
+    ghost kept_by = { λ worker result. IfOk result (IsServed worker.config.calls) × IfErr result (IsRefusedCaller (HasCounted P.failures) worker.config.ward_bits (G.may worker.gate.value) worker.config.calls worker.number) };
 }
 
-// A caller's thread, or `Memory` where it can't be made.
-type Calling<F> = Result<PromisedHandle<Result<Seat<F>, StormFault>, Serves>, StormFault>;
+// A keeper's thread is refused, if it is, as the keeper of its ward may be.
+impl<P: Pages + Drop, G: Gate> Promise<Outcome> for Worker<P, G> {
+    ghost use Rattle.std.specs.Prelude.{IfErr};
+    ghost use Rattle.exh_live.specs.Refusals.{HasCounted, IsRefusedKeeper};
+
+    ghost kept_by = { λ worker result. IfErr result (IsRefusedKeeper (HasCounted P.failures) (G.may worker.gate.value) worker.config.calls worker.number) };
+}
+
+// A courier's thread gives the courier back, and is refused, if it is, as the courier to its copy may be.
+impl<'a, P: Pages + Drop, G: Gate, R: Wait, S: Start> Promise<(Courier<'a, R, S>, Outcome)>
+    for Worker<P, G> {
+    ghost use Rattle.std.specs.Prelude.{IfErr};
+    ghost use Rattle.exh_live.specs.Refusals.{IsRefusedCourier};
+
+    ghost kept_by = { λ worker result. IfErr result.1 (IsRefusedCourier (G.may worker.gate.value) worker.config.calls worker.number) };
+}
 
 // What came of a worker.
 type Outcome = Result<(), StormFault>;
 
-// A keeper's thread, or `Memory` where it can't be made.
-type Keeping = Result<JoinHandle<Outcome>, StormFault>;
+// A worker's thread, or `Memory` where it can't be made.
+type Thread<T, P, G> = Result<PromisedHandle<T, Worker<P, G>>, StormFault>;
 
-// A courier's thread, which hands it back, or `Memory` where it can't be made.
-type Carrying<'a, R, S> = Result<JoinHandle<(Courier<'a, R, S>, Outcome)>, StormFault>;
+// What a caller's thread gives.
+type Called<F> = Result<Seat<F>, StormFault>;
 
-/// Runs all workers at once, a keeper for each ward among them, each for so many rounds, and joins them;
-/// then gives the callers' seats, or the first refusal, of the callers by their numbers, then of the
-/// keepers, then of the couriers. A thread that can't be made is `Memory` of its worker.
+// What a courier's thread gives.
+type Carried<'a, R, S> = (Courier<'a, R, S>, Outcome);
+
+/// Runs all workers at once, a keeper for each ward among them, each for as many rounds as a caller makes calls, and joins
+/// them; then gives the callers' seats, or the first refusal, of the callers by their numbers, then of the keepers, then
+/// of the couriers. A thread that can't be made is `Memory` of its worker. So is what came of them where there is no
+/// memory for that.
 pub(crate) fn run_all<
     R: Threads + Wait + Sync,
     P: Pages + Drop + Send + Sync,
@@ -65,32 +89,74 @@ pub(crate) fn run_all<
     alloc: Global,
     file: &StormFile<P, F>,
     workers: Workers<'_, R, F, S>,
-    rounds: Rounds,
+    config: StormConfig,
     overseers: Overseers<'_, G, W>,
 ) -> Result<Vec<Seat<F>>, StormFault>
-    requires limit { rounds.ward_bits ≤ WARD_BITS_LIMIT }
-    requires bits { rounds.ward_bits ≡ file.now.ward_bits }
-    ensures { IfOk result (λ seats. All (IsServed rounds.count) seats.items) }
+    requires limit { config.ward_bits ≤ WARD_BITS_LIMIT }
+    requires bits { config.ward_bits ≡ file.now.ward_bits }
+    requires hashed { F.hashing ≡ sha_pseudokey }
+    requires copies { (S.ward_bits ≡ config.ward_bits) × (S.table ≡ map.empty) }
+    requires callers { AreFirst (λ place caller. caller.seat.client ≡ place + 1) config.callers workers.callers.items }
+    requires couriers { AreFirst (λ place courier. courier.number ≡ place + 1) config.copies workers.couriers.items }
+    ensures served { IfOk result (λ seats. All (IsServed config.calls) seats.items) }
+    ensures all { IfOk result (λ seats. length seats.items ≡ config.callers) }
+    ensures fault { IfErr result (λ fault. (fault ≡ Memory) ⊎ IsWorkersFault (HasCounted P.failures) (G.may overseers.entry.gate.now) config fault) }
 {
-    let Workers { callers, couriers } = workers;
     thread::scope(
         thread::scope_env(),
         rt,
         move |scope| -> Result<Vec<Seat<F>>, StormFault>
-            requires { (rounds.ward_bits ≤ WARD_BITS_LIMIT) × (rounds.ward_bits ≡ file.now.ward_bits) }
-            ensures { IfOk result (λ seats. All (IsServed rounds.count) seats.items) }
-        {
-            let calling = start_callers(scope, rt, alloc, file, callers, rounds, overseers)?;
-            let keeping = start_keepers(scope, rt, alloc, file, rounds, overseers)?;
-            let carrying = start_couriers(scope, alloc, file, couriers, rounds, overseers)?;
-            let mut outcomes = Vec::new(alloc);
-            let seats = join_callers(rt, alloc, calling, rounds.count, &mut outcomes)?;
-            join_keepers(rt, keeping, &mut outcomes)?;
-            join_couriers(rt, carrying, &mut outcomes)?;
-            first_refusal(outcomes.as_slice())?;
-            Ok(seats)
-        },
+            requires limit { config.ward_bits ≤ WARD_BITS_LIMIT }
+            requires bits { config.ward_bits ≡ file.now.ward_bits }
+            requires hashed { F.hashing ≡ sha_pseudokey }
+            requires copies { (S.ward_bits ≡ config.ward_bits) × (S.table ≡ map.empty) }
+            requires callers { AreFirst (λ place caller. caller.seat.client ≡ place + 1) config.callers workers.callers.items }
+            requires couriers { AreFirst (λ place courier. courier.number ≡ place + 1) config.copies workers.couriers.items }
+            ensures served { IfOk result (λ seats. All (IsServed config.calls) seats.items) }
+            ensures all { IfOk result (λ seats. length seats.items ≡ config.callers) }
+            ensures fault { IfErr result (λ fault. (fault ≡ Memory) ⊎ IsWorkersFault (HasCounted P.failures) (G.may overseers.entry.gate.now) config fault) }
+        { run_in(scope, rt, alloc, file, workers, config, overseers) },
     )
+}
+
+// The same, in a scope.
+fn run_in<
+    's,
+    E,
+    R: Threads + Wait + Sync,
+    P: Pages + Drop + Send + Sync + 's,
+    F: Identity + Send + Sync + 's,
+    S: Start + Send + Sync + 's,
+    G: Gate + Sync,
+    W: Watch + Sync,
+>(
+    scope: &Scope<'s, E>,
+    rt: &'s R,
+    alloc: Global,
+    file: &'s StormFile<P, F>,
+    workers: Workers<'s, R, F, S>,
+    config: StormConfig,
+    overseers: Overseers<'s, G, W>,
+) -> Result<Vec<Seat<F>>, StormFault>
+    requires limit { config.ward_bits ≤ WARD_BITS_LIMIT }
+    requires bits { config.ward_bits ≡ file.now.ward_bits }
+    requires hashed { F.hashing ≡ sha_pseudokey }
+    requires copies { (S.ward_bits ≡ config.ward_bits) × (S.table ≡ map.empty) }
+    requires callers { AreFirst (λ place caller. caller.seat.client ≡ place + 1) config.callers workers.callers.items }
+    requires couriers { AreFirst (λ place courier. courier.number ≡ place + 1) config.copies workers.couriers.items }
+    ensures served { IfOk result (λ seats. All (IsServed config.calls) seats.items) }
+    ensures all { IfOk result (λ seats. length seats.items ≡ config.callers) }
+    ensures fault { IfErr result (λ fault. (fault ≡ Memory) ⊎ IsWorkersFault (HasCounted P.failures) (G.may overseers.entry.gate.now) config fault) }
+{
+    let Workers { callers, couriers } = workers;
+    let calling = start_callers(scope, rt, alloc, file, callers, config, overseers)?;
+    let keeping = start_keepers(scope, rt, alloc, file, config, overseers)?;
+    let carrying = start_couriers(scope, alloc, file, couriers, config, overseers)?;
+    let (seats, called) = join_callers(rt, alloc, calling, config, overseers.gate)?;
+    let kept = join_keepers(rt, alloc, keeping, config, overseers.gate)?;
+    let carried = join_couriers(rt, alloc, carrying, config, overseers.gate)?;
+    first_of_all(&called, &kept, &carried)?;
+    Ok(seats)
 }
 
 // What a thread that can't be made comes to. What was to run on it, which comes back with the refusal, is let
@@ -117,19 +183,25 @@ fn start_callers<
     alloc: Global,
     file: &'s StormFile<P, F>,
     callers: Vec<Caller<F, S>>,
-    rounds: Rounds,
+    config: StormConfig,
     overseers: Overseers<'s, G, W>,
-) -> Result<Vec<Calling<F>>, AllocError>
-    ensures { IfOk result (λ threads. All (λ thread. IfOk thread (λ handle. handle.promise.calls ≡ rounds.count)) threads.items) }
+) -> Result<Vec<Thread<Called<F>, P, G>>, AllocError>
+    requires hashed { F.hashing ≡ sha_pseudokey }
+    requires copies { (S.ward_bits ≡ config.ward_bits) × (S.table ≡ map.empty) }
+    requires callers { AreFirst (λ place caller. caller.seat.client ≡ place + 1) config.callers callers.items }
+    ensures { IfOk result (λ threads. AreFirst (λ place thread. MatchResult thread (λ handle. (handle.promise.number ≡ place + 1) × (handle.promise.config ≡ config) × (handle.promise.gate.value ≡ overseers.entry.gate.now)) (λ fault. fault ≡ Memory)) config.callers threads.items) }
 {
-    let calls = rounds.count;
+    let calls = config.calls;
     let Overseers { gate, watch } = overseers;
     let mut threads = Vec::with_capacity(alloc, callers.len())?;
     for caller in callers {
-        let spawned = scope.spawn_with(
-            Serves { calls },
-            move || caller.run(rt, file, calls, gate, watch),
-        );
+        let worker = Worker {
+            number: caller.seat.diary().client(),
+            config,
+            gate: Snapshot::of(gate),
+            stores: PhantomData,
+        };
+        let spawned = scope.spawn_with(worker, move || caller.run(rt, file, calls, gate, watch));
         threads.push(match spawned {
             Ok(handle) => Ok(handle),
             Err(refused) => Err(unmade(refused)),
@@ -152,18 +224,29 @@ fn start_keepers<
     rt: &'s R,
     alloc: Global,
     file: &'s StormFile<P, F>,
-    rounds: Rounds,
+    config: StormConfig,
     overseers: Overseers<'s, G, W>,
-) -> Result<Vec<Keeping>, AllocError>
-    requires limit { rounds.ward_bits ≤ WARD_BITS_LIMIT }
-    requires bits { rounds.ward_bits ≡ file.now.ward_bits }
+) -> Result<Vec<Thread<Outcome, P, G>>, AllocError>
+    requires limit { config.ward_bits ≤ WARD_BITS_LIMIT }
+    requires bits { config.ward_bits ≡ file.now.ward_bits }
+    ensures { IfOk result (λ threads. AreFirst (λ place thread. MatchResult thread (λ handle. (handle.promise.number ≡ place) × (handle.promise.config ≡ config) × (handle.promise.gate.value ≡ overseers.entry.gate.now)) (λ fault. fault ≡ Memory)) (2 ^ config.ward_bits) threads.items) }
 {
+    let rounds = config.calls;
     let Overseers { gate, watch } = overseers;
-    let mut threads = Vec::with_capacity(alloc, 1 << rounds.ward_bits)?;
-    for ward in 0..1u8 << rounds.ward_bits {
+    let mut threads = Vec::with_capacity(alloc, 1 << config.ward_bits)?;
+    for ward in 0..1u8 << config.ward_bits {
         let keeper = Keeper { ward };
-        let spawned = scope.spawn(move || keeper.run(rt, file, rounds.count, gate, watch));
-        threads.push(spawned.map_err(|_| StormFault::Memory))?;
+        let worker = Worker {
+            number: u32::from(ward),
+            config,
+            gate: Snapshot::of(gate),
+            stores: PhantomData,
+        };
+        let spawned = scope.spawn_with(worker, move || keeper.run(rt, file, rounds, gate, watch));
+        threads.push(match spawned {
+            Ok(handle) => Ok(handle),
+            Err(refused) => Err(unmade(refused)),
+        })?;
     }
     Ok(threads)
 }
@@ -183,17 +266,29 @@ fn start_couriers<
     alloc: Global,
     file: &'s StormFile<P, F>,
     couriers: Vec<Courier<'s, R, S>>,
-    rounds: Rounds,
+    config: StormConfig,
     overseers: Overseers<'s, G, W>,
-) -> Result<Vec<Carrying<'s, R, S>>, AllocError>
-    requires limit { rounds.ward_bits ≤ WARD_BITS_LIMIT }
-    requires bits { rounds.ward_bits ≡ file.now.ward_bits }
+) -> Result<Vec<Thread<Carried<'s, R, S>, P, G>>, AllocError>
+    requires limit { config.ward_bits ≤ WARD_BITS_LIMIT }
+    requires bits { config.ward_bits ≡ file.now.ward_bits }
+    requires couriers { AreFirst (λ place courier. courier.number ≡ place + 1) config.copies couriers.items }
+    ensures { IfOk result (λ threads. AreFirst (λ place thread. MatchResult thread (λ handle. (handle.promise.number ≡ place + 1) × (handle.promise.config ≡ config) × (handle.promise.gate.value ≡ overseers.entry.gate.now)) (λ fault. fault ≡ Memory)) config.copies threads.items) }
 {
+    let gate = overseers.gate;
     let mut threads = Vec::with_capacity(alloc, couriers.len())?;
     for courier in couriers {
-        let spawned = scope.spawn(move || carry(courier, alloc, file, rounds, overseers));
+        let worker = Worker {
+            number: u32::from(courier.number),
+            config,
+            gate: Snapshot::of(gate),
+            stores: PhantomData,
+        };
+        let spawned = scope.spawn_with(
+            worker,
+            move || carry(courier, alloc, file, config, overseers),
+        );
         threads.push(match spawned {
-            Ok(thread) => Ok(thread),
+            Ok(handle) => Ok(handle),
             Err(refused) => Err(unmade(refused)),
         })?;
     }
@@ -205,32 +300,36 @@ fn carry<'a, R: Wait, P: Pages + Drop, F: Identity, S: Start, G: Gate, W: Watch>
     courier: Courier<'a, R, S>,
     alloc: Global,
     file: &StormFile<P, F>,
-    rounds: Rounds,
+    config: StormConfig,
     overseers: Overseers<'_, G, W>,
-) -> (Courier<'a, R, S>, Outcome)
-    requires limit { rounds.ward_bits ≤ WARD_BITS_LIMIT }
-    requires bits { rounds.ward_bits ≡ file.now.ward_bits }
+) -> Carried<'a, R, S>
+    requires limit { config.ward_bits ≤ WARD_BITS_LIMIT }
+    requires bits { config.ward_bits ≡ file.now.ward_bits }
+    ensures { IfErr result.1 (IsCourierFault (G.may overseers.entry.gate.now (COURIER_CLIENT + courier.entry.number)) config.calls) }
 {
     let mut courier = courier;
     let Overseers { gate, watch } = overseers;
-    let outcome = courier.run(alloc, file, rounds.ward_bits, rounds.count, gate, watch);
+    let outcome = courier.run(alloc, file, config.ward_bits, config.calls, gate, watch);
     (courier, outcome)
 }
 
-// Joins the callers, and gives the seats of those that weren't refused.
-fn join_callers<R: Threads, F: Identity>(
+// Joins the callers, and gives the seats of those that weren't refused, and what came of all.
+fn join_callers<R: Threads, P: Pages + Drop, F: Identity, G: Gate>(
     rt: &R,
     alloc: Global,
-    threads: Vec<Calling<F>>,
-    calls: u32,
-    outcomes: &mut Vec<Outcome>,
-) -> Result<Vec<Seat<F>>, AllocError>
-    requires { All (λ thread. IfOk thread (λ handle. handle.promise.calls ≡ calls)) threads.items }
-    ensures { IfOk result (λ seats. All (IsServed calls) seats.items) }
+    threads: Vec<Thread<Called<F>, P, G>>,
+    config: StormConfig,
+    gate: &G,
+) -> Result<(Vec<Seat<F>>, Vec<Outcome>), AllocError>
+    requires { AreFirst (λ place thread. MatchResult thread (λ handle. (handle.promise.number ≡ place + 1) × (handle.promise.config ≡ config) × (handle.promise.gate.value ≡ gate.now)) (λ fault. fault ≡ Memory)) config.callers threads.items }
+    ensures served { IfOk result (λ joined. All (IsServed config.calls) joined.0.items) }
+    ensures outcomes { IfOk result (λ joined. AreFirst (λ place outcome. IfErr outcome (IsRefusedCaller (HasCounted P.failures) config.ward_bits (G.may gate.now) config.calls (place + 1))) config.callers joined.1.items) }
+    ensures all { IfOk result (λ joined. first_refusal joined.1.items ≡ Ok tt → length joined.0.items ≡ config.callers) }
 {
     let mut seats = Vec::with_capacity(alloc, threads.len())?;
+    let mut outcomes = Vec::with_capacity(alloc, threads.len())?;
     for thread in threads {
-        match join_caller(rt, thread, calls) {
+        match join_caller(rt, thread) {
             Ok(seat) => {
                 seats.push(seat)?;
                 outcomes.push(Ok(()))?;
@@ -238,16 +337,16 @@ fn join_callers<R: Threads, F: Identity>(
             Err(fault) => outcomes.push(Err(fault))?,
         }
     }
-    Ok(seats)
+    Ok((seats, outcomes))
 }
 
-fn join_caller<R: Threads, F: Identity>(
+// Joins a caller.
+fn join_caller<R: Threads, P: Pages + Drop, F: Identity, G: Gate>(
     rt: &R,
-    thread: Calling<F>,
-    calls: u32,
-) -> Result<Seat<F>, StormFault>
-    requires { IfOk thread (λ handle. handle.promise.calls ≡ calls) }
-    ensures { IfOk result (IsServed calls) }
+    thread: Thread<Called<F>, P, G>,
+) -> Called<F>
+    ensures served { IfOk result (λ seat. MatchResult thread (λ handle. IsServed handle.promise.config.calls seat) (λ fault. ⊥)) }
+    ensures fault { MatchResult thread (λ handle. IfErr result (IsRefusedCaller (HasCounted P.failures) handle.promise.config.ward_bits (G.may handle.promise.gate.value) handle.promise.config.calls handle.promise.number)) (λ fault. result ≡ Err fault) }
 {
     match thread {
         Ok(handle) => handle.join(rt),
@@ -255,34 +354,79 @@ fn join_caller<R: Threads, F: Identity>(
     }
 }
 
-// Joins the keepers.
-fn join_keepers<R: Threads>(
+// Joins the keepers, and gives what came of them.
+fn join_keepers<R: Threads, P: Pages + Drop, G: Gate>(
     rt: &R,
-    threads: Vec<Keeping>,
-    outcomes: &mut Vec<Outcome>,
-) -> Result<(), AllocError> {
+    alloc: Global,
+    threads: Vec<Thread<Outcome, P, G>>,
+    config: StormConfig,
+    gate: &G,
+) -> Result<Vec<Outcome>, AllocError>
+    requires { AreFirst (λ place thread. MatchResult thread (λ handle. (handle.promise.number ≡ place) × (handle.promise.config ≡ config) × (handle.promise.gate.value ≡ gate.now)) (λ fault. fault ≡ Memory)) (2 ^ config.ward_bits) threads.items }
+    ensures { IfOk result (λ outcomes. AreFirst (λ place outcome. IfErr outcome (IsRefusedKeeper (HasCounted P.failures) (G.may gate.now) config.calls place)) (2 ^ config.ward_bits) outcomes.items) }
+{
+    let mut outcomes = Vec::with_capacity(alloc, threads.len())?;
     for thread in threads {
-        outcomes.push(match thread {
-            Ok(handle) => handle.join(rt),
-            Err(fault) => Err(fault),
-        })?;
+        outcomes.push(join_keeper(rt, thread))?;
     }
-    Ok(())
+    Ok(outcomes)
 }
 
-// Joins the couriers, and closes their copies.
-fn join_couriers<R: Threads + Wait, S: Start>(
+// Joins a keeper.
+fn join_keeper<R: Threads, P: Pages + Drop, G: Gate>(
     rt: &R,
-    threads: Vec<Carrying<'_, R, S>>,
-    outcomes: &mut Vec<Outcome>,
-) -> Result<(), AllocError> {
-    for thread in threads {
-        outcomes.push(match thread {
-            Ok(handle) => handle.join(rt).1,
-            Err(fault) => Err(fault),
-        })?;
+    thread: Thread<Outcome, P, G>,
+) -> Outcome
+    ensures { MatchResult thread (λ handle. IfErr result (IsRefusedKeeper (HasCounted P.failures) (G.may handle.promise.gate.value) handle.promise.config.calls handle.promise.number)) (λ fault. result ≡ Err fault) }
+{
+    match thread {
+        Ok(handle) => handle.join(rt),
+        Err(fault) => Err(fault),
     }
-    Ok(())
+}
+
+// Joins the couriers, closes their copies, and gives what came of them.
+fn join_couriers<R: Threads + Wait, P: Pages + Drop, S: Start, G: Gate>(
+    rt: &R,
+    alloc: Global,
+    threads: Vec<Thread<Carried<'_, R, S>, P, G>>,
+    config: StormConfig,
+    gate: &G,
+) -> Result<Vec<Outcome>, AllocError>
+    requires { AreFirst (λ place thread. MatchResult thread (λ handle. (handle.promise.number ≡ place + 1) × (handle.promise.config ≡ config) × (handle.promise.gate.value ≡ gate.now)) (λ fault. fault ≡ Memory)) config.copies threads.items }
+    ensures { IfOk result (λ outcomes. AreFirst (λ place outcome. IfErr outcome (IsRefusedCourier (G.may gate.now) config.calls (place + 1))) config.copies outcomes.items) }
+{
+    let mut outcomes = Vec::with_capacity(alloc, threads.len())?;
+    for thread in threads {
+        outcomes.push(join_courier(rt, thread))?;
+    }
+    Ok(outcomes)
+}
+
+// Joins a courier, and closes its copy.
+fn join_courier<R: Threads + Wait, P: Pages + Drop, S: Start, G: Gate>(
+    rt: &R,
+    thread: Thread<Carried<'_, R, S>, P, G>,
+) -> Outcome
+    ensures { MatchResult thread.entry (λ handle. IfErr result (IsRefusedCourier (G.may handle.promise.gate.value) handle.promise.config.calls handle.promise.number)) (λ fault. result ≡ Err fault) }
+{
+    match thread {
+        Ok(handle) => handle.join(rt).1,
+        Err(fault) => Err(fault),
+    }
+}
+
+// The first refusal of the callers, the keepers and the couriers, if there is one.
+fn first_of_all(callers: &[Outcome], keepers: &[Outcome], couriers: &[Outcome]) -> Outcome
+    ensures { result ≡ first_refusal (callers.now ++ (keepers.now ++ couriers.now)) }
+{
+    match first_refusal(callers) {
+        Ok(()) => match first_refusal(keepers) {
+            Ok(()) => first_refusal(couriers),
+            Err(fault) => Err(fault),
+        },
+        Err(fault) => Err(fault),
+    }
 }
 
 // The first refusal, if there is one.

@@ -2,6 +2,7 @@ mod Counts
 mod FirstWard
 mod Order
 mod Parts
+mod Refusals
 mod Rounds
 mod ToBeTallied
 mod Walks

@@ -4,6 +4,7 @@ pub mod LiveFile
 pub mod Locked
 pub mod LiveWardLemmas
 pub mod CursorPlaceLemmas
+pub mod Refused
 pub mod Rounds
 pub mod Spare
 pub mod Units

@@ -2,6 +2,7 @@ ghost use Rattle.std.specs.Prelude.{◌≡◌, ⊤, ◌+◌, ◌<◌, length};
 ghost use Rattle.exh_calls.specs.Call.{key_of};
 ghost use Rattle.exh_route.specs.WardRun.{answer_of};
 ghost use Rattle.exh_live_file.specs.Locked.{IsSomeWardsStep};
+ghost use Rattle.exh_live_file.specs.Refused.{IsRefusedSo};
 
 use crate::Identity;
 use crate::ledgers::Answers;
@@ -31,9 +32,9 @@ pub(crate) struct LockedWard<'a, P: Pages + Drop, K: Keyer, F: Identity, R: Wait
     ghost one_part: { answers.parts ≡ 1 },
 }
 
-// An answer is one unit more, and nothing else is any.
+// An answer is one unit more, and nothing else is any; a refusal is one of some ward, whose store has counted it.
 impl<'a, P: Pages + Drop, K: Keyer, F: Identity, R: Wait> Steps for LockedWard<'a, P, K, F, R> {
-    ghost step = { λ old event new. (new.answers.amount ≡ old.answers.amount + length (answer_of event)) × IsSomeWardsStep K.pseudokey_of event };
+    ghost step = { λ old event new. (new.answers.amount ≡ old.answers.amount + length (answer_of event)) × IsSomeWardsStep K.pseudokey_of event × IsRefusedSo P.failures K.pseudokey_of event };
 
     ghost serves = { λ ward call pseudokey. (pseudokey ≡ ward.pseudokey) × (pseudokey ≡ F.hashing (key_of call)) };
 
@@ -55,7 +56,7 @@ impl<'a, P: Pages + Drop, K: Keyer, F: Identity, R: Wait> Steps for LockedWard<'
         if !ward.covers(pseudokey) {
             return Ok(Hop::Stray);
         }
-        ward.hop(
+        ward.hop_counted(
             self.rt,
             self.tally,
             &mut self.answers,

@@ -8,6 +8,7 @@ ghost use Rattle.exh_ward.specs.WardState.{IsSoundWard, IsUnchanged, LeavesAfter
 ghost use Rattle.exh_route.specs.WardRun.{HopAt, SplitAt, answer_of};
 ghost use Rattle.exh_ward.specs.declared.ward_fault.WardFault.TheVariants.{Worn};
 ghost use Rattle.exh_walk.specs.WardStep.{IsWardStep};
+ghost use Rattle.exh_live_file.specs.Refused.{IsSomeWardsFault};
 ghost use Rattle.exh_live_file.specs.Rounds.{IsKeeperTurn, MayRefuseKeeper};
 ghost use Rattle.exh_live_file.specs.WardParts.{parts_of_number, ward_parts};
 
@@ -92,9 +93,35 @@ impl<P: Pages + Drop, K: Keyer, F: Identity> TalliedWard<P, K, F> {
         self.ward.covers(pseudokey)
     }
 
-    /// One hop of the ward: the method that the world's step calls. At `Done` the tally is locked too, and
-    /// a unit is added to both books, to the caller's share and to the ward's; else to none.
-    pub(crate) fn hop<R: Wait>(
+    /// One hop, as `hop`. A page out of reach is one that a store of the ward's kind has counted.
+    pub(crate) fn hop_counted<R: Wait>(
+        &mut self,
+        rt: &R,
+        tally: &TallyLock<F>,
+        answers: &mut Share<Answers<F>>,
+        at: PageNo,
+        client: u32,
+        call: &Call,
+        pseudokey: u64,
+    ) -> Result<Hop, WardFault>
+        requires hashed { pseudokey ≡ F.hashing (key_of call.now) }
+        requires covered { Begins (own_prefix self.old.ward) pseudokey }
+        requires seat { 0 < answers.old.parts }
+        ensures fault { IfErr result IsStoreFault }
+        ensures refused { IfErr result (IsSomeWardsFault P.failures K.pseudokey_of) }
+        ensures step { IsSoundWard K.pseudokey_of self.old.ward × IsWardStep K.pseudokey_of self.old.ward (HopAt at client call.now result) self.new.ward }
+        ensures units { answers.new.amount ≡ answers.old.amount + length (answer_of (HopAt at client call.now result)) }
+        ensures seat { answers.new.parts ≡ answers.old.parts }
+    {
+        let hop = self.hop(rt, tally, answers, at, client, call, pseudokey);
+        // By whose contract a store has counted as many.
+        self.ward.failures();
+        hop
+    }
+
+    // One hop of the ward: the method that the world's step calls. At `Done` the tally is locked too, and
+    // a unit is added to both books, to the caller's share and to the ward's; else to none.
+    fn hop<R: Wait>(
         &mut self,
         rt: &R,
         tally: &TallyLock<F>,
@@ -126,17 +153,22 @@ impl<P: Pages + Drop, K: Keyer, F: Identity> TalliedWard<P, K, F> {
         Ok(hop)
     }
 
-    /// A split of one of the ward's pages: the method that the world's step calls. No unit is added.
+    /// A split of one of the ward's pages: the method that the world's step calls. No unit is added. A page out of
+    /// reach is one that a store of the ward's kind has counted.
     pub(crate) fn split(&mut self, page: PageNo) -> Result<Notice, WardFault>
         ensures ok { IfOk result (λ notice. IsSplitStep self.old.ward page notice self.new.ward) }
-        ensures refused { IfErr result (SplitRefused self.old.ward.cap self.old.ward.pages page) }
+        ensures fault { IfErr result (SplitRefused self.old.ward.cap self.old.ward.pages page) }
+        ensures refused { IfErr result (IsSomeWardsFault P.failures K.pseudokey_of) }
         ensures err { OnErr result (IsUnchanged self.old.ward self.new.ward) }
         ensures failures { CountsFailures result self.old.ward.failures self.new.ward.failures }
         ensures step { IsSoundWard K.pseudokey_of self.old.ward × IsWardStep K.pseudokey_of self.old.ward (SplitAt page result) self.new.ward }
     {
         // By whose contract the ward is sound.
         self.ward.journal();
-        self.ward.split(page)
+        let split = self.ward.split(page);
+        // By whose contract a store has counted as many.
+        self.ward.failures();
+        split
     }
 
     /// How many pages the ward has.
@@ -149,10 +181,23 @@ impl<P: Pages + Drop, K: Keyer, F: Identity> TalliedWard<P, K, F> {
         self.ward.page_count()
     }
 
-    /// A keeper's turn at a page: a look at it and its right buddy, and a merge where they are sparse, the
-    /// method that the world's step calls. It answers whether it merged them; not where the number at
-    /// their parent is the greatest. No unit is added.
-    pub(crate) fn keep(&mut self, page: PageNo) -> Result<bool, WardFault>
+    /// A keeper's turn at a page, as `keep`. A page out of reach is one that a store of the ward's kind has counted.
+    pub(crate) fn keep_counted(&mut self, page: PageNo) -> Result<bool, WardFault>
+        ensures sound { IsSoundWard K.pseudokey_of self.old.ward }
+        ensures kept { IfOk result (λ merged. IsKeeperTurn self.old.ward page merged self.new.ward) }
+        ensures fault { IfErr result IsStoreFault }
+        ensures refused { IfErr result (IsSomeWardsFault P.failures K.pseudokey_of) }
+    {
+        let kept = self.keep(page);
+        // By whose contract a store has counted as many.
+        self.ward.failures();
+        kept
+    }
+
+    // A keeper's turn at a page: a look at it and its right buddy, and a merge where they are sparse, the
+    // method that the world's step calls. It answers whether it merged them; not where the number at
+    // their parent is the greatest. No unit is added.
+    fn keep(&mut self, page: PageNo) -> Result<bool, WardFault>
         ensures sound { IsSoundWard K.pseudokey_of self.old.ward }
         ensures kept { IfOk result (λ merged. IsKeeperTurn self.old.ward page merged self.new.ward) }
         ensures err { OnErr result (IsUnchanged self.old.ward self.new.ward) }

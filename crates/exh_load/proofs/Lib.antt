@@ -1,5 +1,7 @@
 -- of put: the home that a pair is put into, as a directory names it
 pub mod ToldHomes
+-- of history, loader and what puts pairs: counts of failures
+pub mod Counted
 -- of loader: a list made item by item, the wards of a new file, a put into one of them, and those of an opened file
 pub mod Items
 pub mod FreshWards

@@ -1,5 +1,5 @@
 -- A pair put into the ward of its key, and the directories beside the wards.
-use Rattle.std.proofs.Common.{◌≡◌, ℕ, ◌+◌, ◌<◌, List, length, map, slice_get, Some, Ok, inl, inr, refl, sym, ap, ◌∙◌, subst, arith}
+use Rattle.std.proofs.Common.{◌≡◌, ℕ, ◌+◌, ◌<◌, ◌≤◌, List, length, map, slice_get, Some, Ok, inl, inr, refl, sym, ap, ◌∙◌, subst, arith}
 use Rattle.std.specs.Prelude.{slice_index_or, slice_set}
 use Rattle.std.proofs.lemmas.Bool.{cases_eq}
 use Rattle.std.proofs.lemmas.Option.{slice_get_read}
@@ -25,6 +25,8 @@ use Rattle.exh_load.specs.Put.{IsDirectoryOf}
 use Rattle.exh_load.specs.Loader.{HasSplitsIn, IsLoading, IsPutIn, LoaderState, MayHaveBegun, file_in}
 use Rattle.exh_load.specs.Loading.{Loading, after_pair, loading_of, pair_reply}
 use Rattle.exh_load.specs.Load.{new_count, record_count}
+use Rattle.exh_load.specs.LoadFault.{FallsNowhere, HasCountedIn}
+use Rattle.exh_load.proofs.Counted.{falls_at}
 use Rattle.exh_load.proofs.Records.{pair_counted}
 
 -- whether the history began or goes on, all else is the same
@@ -97,6 +99,23 @@ module _ (old now : LoaderState) (view_is : old ≡ now) (are : AreWardsOf (file
             others = ap (λ (n : ℕ). let opened : OpenedState = record file { wards = slice_set old.wards n answered } in opened) at_place;
           }
 
+      -- whose store has counted one
+      count_in : {P : Type 0} (failures : P → ℕ) → ward.failures < answered.failures → (store : P) × (failures store ≡ answered.failures) → HasCountedIn failures file key (file_in split_left)
+      count_in failures more has =
+          let at_place = place file are call pseudokey at hashed at_is in
+          record {
+            ward = ward;
+            after = answered;
+            there = subst (λ n. slice_get old.wards n ≡ Some ward) at_place ward_there;
+            others = ap (λ (n : ℕ). let opened : OpenedState = record file { wards = slice_set old.wards n answered } in opened) at_place;
+            more = more;
+            store = has.0;
+            counted = has.1;
+          }
+
+      pub counts_in : {P : Type 0} (failures : P → ℕ) → ward.failures < answered.failures → (store : P) × (failures store ≡ answered.failures) → HasCountedIn failures (file_in now) key (file_in split_left)
+      counts_in failures more has = subst (λ (o : LoaderState). HasCountedIn failures (file_in o) key (file_in split_left)) view_is (count_in failures more has)
+
       pub are_splits_in : AreSplitsAtMost ward answered → HasSplitsIn now key split_left
       are_splits_in splits = subst (λ o. HasSplitsIn o key split_left) view_is (splits_in splits)
 
@@ -108,6 +127,9 @@ module _ (old now : LoaderState) (view_is : old ≡ now) (are : AreWardsOf (file
 
         abbrev pub left : LoaderState
         left = record old { wards = slice_set old.wards at after; directories = slice_set old.directories at told }
+
+        pub falls_in : ward.failures ≤ after.failures → FallsNowhere (file_in now) (file_in left)
+        falls_in more = subst (λ (o : LoaderState). FallsNowhere (file_in o) (file_in left)) view_is (falls_at file (file_in left) at ward after ward_there refl more)
 
         pub begun_keeps : HasSettings ward answered → HasSettings ward after
         begun_keeps kept = record { cap = beside.cap ∙ kept.cap; bits = beside.bits ∙ kept.bits; number = beside.number ∙ kept.number; keyer = beside.keyer ∙ kept.keyer }

@@ -1,7 +1,9 @@
 //! What a first line begins: the loader of a new file, or of an opened one.
-ghost use Rattle.std.specs.Prelude.{IfOk, IsTrue};
+ghost use Rattle.std.specs.Prelude.{◌≡◌, IfOk, IfSome, IsTrue};
 ghost use Rattle.exh_text.specs.FileLine.{file_in_range};
 ghost use Rattle.exh_load.specs.Load.{IsBegun, beginning, opened_file};
+ghost use Rattle.exh_load.specs.LoadFault.{BeginsFrom};
+ghost use Rattle.exh_load.specs.Loader.{file_in};
 
 use crate::Loader;
 use exh_file::Opened;
@@ -22,7 +24,8 @@ pub(crate) fn begin<P: Pages + Drop, M: StoreMaker<P, AnyKeyer>, L: Listener>(
     listener: &mut L,
 ) -> Result<Option<Loader<P>>, AllocError>
     requires { IsTrue (file_in_range file.now) }
-    ensures { IfOk result (IsBegun (beginning from file.now)) }
+    ensures begun { IfOk result (IsBegun (beginning from file.now)) }
+    ensures from { IfOk result (λ begun. IfSome begun (λ loader. BeginsFrom from (file_in loader))) }
 {
     match from {
         None => Ok(Some(Loader::new(alloc, maker, file.file_settings())?)),
@@ -37,7 +40,8 @@ fn begin_over<P: Pages + Drop, L: Listener>(
     file: &Config<AnyKeyer>,
     listener: &mut L,
 ) -> Result<Option<Loader<P>>, AllocError>
-    ensures { IfOk result (IsBegun (opened_file opened file.now)) }
+    ensures begun { IfOk result (IsBegun (opened_file opened file.now)) }
+    ensures from { IfOk result (λ begun. IfSome begun (λ loader. file_in loader ≡ opened)) }
 {
     if !opened.settings().are_same(&file.file_settings()) {
         listener.differs(file.file_settings(), opened.settings());

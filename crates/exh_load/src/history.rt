@@ -1,4 +1,4 @@
-ghost use Rattle.std.specs.Prelude.{IsTrue};
+ghost use Rattle.std.specs.Prelude.{◌≤◌, IsTrue};
 ghost use Rattle.exh_load.specs.Loader.{IsOutgrown, MayHaveBegun};
 
 use exh_keyer::Keyer;
@@ -12,11 +12,13 @@ pub const HISTORY_LEN: usize = 256;
 /// history goes on, and the next try comes when the journal is twice as long. So n puts read at most 4n
 /// records again, whatever is refused.
 pub(crate) fn renew_history<P: Pages + Drop, K: Keyer>(ward: &mut Ward<P, K>)
-    ensures { MayHaveBegun ward.old ward.new }
+    ensures begun { MayHaveBegun ward.old ward.new }
+    ensures failures { ward.old.failures ≤ ward.new.failures }
 {
-    if has_outgrown(ward) {
-        let _ = ward.begin_history();
+    if !has_outgrown(ward) {
+        return;
     }
+    let _ = ward.begin_history();
 }
 
 // Whether the journal's length is a power of two, and the journal has outgrown the base.

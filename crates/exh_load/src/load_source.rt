@@ -6,8 +6,8 @@ ghost use Rattle.exh_stream.specs.Output.{AppendsBeginning, SameWriter, Takes, T
 ghost use Rattle.exh_stream.specs.Source.{SameReader, reader_failed, unread};
 ghost use Rattle.exh_text.specs.FileLine.{file_in_range};
 ghost use Rattle.exh_load.specs.Load.{IsLoadBy, IsLoadOf, Loads, Prints, PrintsFront, TakesFront, at_end, beginning, load_begun, load_of, load_of_lines, loaded};
-ghost use Rattle.exh_load.specs.LoadFault.{IsLoadCounted};
-ghost use Rattle.exh_load.specs.Loader.{IsLoading};
+ghost use Rattle.exh_load.specs.LoadFault.{HasCounted, IsLoadCounted};
+ghost use Rattle.exh_load.specs.Loader.{IsLoading, file_in};
 ghost use Rattle.exh_load.specs.Loading.{loading_in, loading_of};
 
 use crate::begin::begin;
@@ -33,7 +33,8 @@ pub const TEXT_LIMIT: usize = 1 << 60;
 /// refused or full.
 ///
 /// `Write`: the writer failed or took no bytes, and got a beginning of what is printed. `Memory`: a growth was refused.
-/// `Page`: a page couldn't be reached, which a store has counted. After these two the writer got whole lines of it.
+/// `Page`: a page couldn't be reached, which a store has counted: more than a ward of the opened file had, or more than
+/// none in a new file. After these two the writer got whole lines of it.
 pub fn load<P: Pages + Drop, M: StoreMaker<P, AnyKeyer>, R: Read, W: Write, L: Listener>(
     alloc: Global,
     maker: &M,
@@ -47,7 +48,7 @@ pub fn load<P: Pages + Drop, M: StoreMaker<P, AnyKeyer>, R: Read, W: Write, L: L
     ensures ok { IfOk result (λ file. Loads (IsLoadOf (load_of (beginning from) limit) (R.remaining reader.old)) (Appends (W.contents writer.old) (W.contents writer.new)) file) }
     ensures err { OnErr result (Prints (IsLoadOf (load_of (beginning from) limit) (R.remaining reader.old)) (AppendsBeginning (W.contents writer.old) (W.contents writer.new))) }
     ensures memory { IfErr result (λ fault. fault ≢ LoadFault.Write → PrintsFront (IsLoadOf (load_of (beginning from) limit) (R.remaining reader.old)) (Appends (W.contents writer.old) (W.contents writer.new))) }
-    ensures counted { IsLoadCounted P.failures result }
+    ensures counted { IsLoadCounted P.failures from result }
 {
     load_all(
         alloc,
@@ -80,7 +81,7 @@ fn load_all<P: Pages + Drop, M: StoreMaker<P, AnyKeyer>, R: Read, W: Write, L: L
     ensures reader { OnOk result (Prints (IsLoadBy (load_of (beginning from) limit) (unread R.remaining source.old) (reader_failed source.new)) (Appends (held W.contents output.old) (held W.contents output.new))) }
     ensures err { OnErr result (Prints (IsLoadOf (load_of (beginning from) limit) (unread R.remaining source.old)) (AppendsBeginning (held W.contents output.old) (held W.contents output.new))) }
     ensures memory { IfErr result (λ fault. fault ≢ LoadFault.Write → PrintsFront (IsLoadOf (load_of (beginning from) limit) (unread R.remaining source.old)) (Appends (held W.contents output.old) (held W.contents output.new))) }
-    ensures counted { IsLoadCounted P.failures result }
+    ensures counted { IsLoadCounted P.failures from result }
 {
     let loaded = load_source(alloc, maker, from, limit, source, output, listener);
     output.finish()?;
@@ -106,7 +107,7 @@ fn load_source<P: Pages + Drop, M: StoreMaker<P, AnyKeyer>, R: Read, W: Write, L
     ensures reader { OnOk result (Prints (IsLoadBy (load_of (beginning from) limit) (unread R.remaining source.old) (reader_failed source.new)) (Takes W.contents output.old output.new)) }
     ensures err { OnErr result (Prints (IsLoadOf (load_of (beginning from) limit) (unread R.remaining source.old)) (TakesBeginning W.contents output.old output.new)) }
     ensures front { IfErr result (λ fault. fault ≢ LoadFault.Write → Prints (IsLoadOf (load_of (beginning from) limit) (unread R.remaining source.old)) (TakesFront W.contents output.old output.new)) }
-    ensures counted { IsLoadCounted P.failures result }
+    ensures counted { IsLoadCounted P.failures from result }
     ensures failed { IsErrOf result LoadFault.Write ↔ IsTrue (writer_failed output.new) }
 {
     match source.read_whole(alloc, limit) {
@@ -136,7 +137,7 @@ fn load_text<P: Pages + Drop, M: StoreMaker<P, AnyKeyer>, W: Write, L: Listener>
     ensures left { IfOk result (λ file. option_map loading_in file ≡ (load_of_lines at_end (beginning from) (lines_of text.now)).left) }
     ensures err { OnErr result (TakesBeginning W.contents output.old output.new (load_of_lines at_end (beginning from) (lines_of text.now)).printed) }
     ensures front { IfErr result (λ fault. fault ≢ LoadFault.Write → TakesFront W.contents output.old output.new (load_of_lines at_end (beginning from) (lines_of text.now)).printed) }
-    ensures counted { IsLoadCounted P.failures result }
+    ensures counted { IsLoadCounted P.failures from result }
     ensures failed { IsErrOf result LoadFault.Write ↔ IsTrue (writer_failed output.new) }
 {
     let mut lines = Lines::new(text);
@@ -180,7 +181,7 @@ fn load_pairs<P: Pages + Drop, M: StoreMaker<P, AnyKeyer>, W: Write, L: Listener
     ensures left { IfOk result (λ opened. option_map loading_in opened ≡ (load_begun at_end (beginning from file.now) lines.entry).left) }
     ensures err { OnErr result (TakesBeginning W.contents output.old output.new (load_begun at_end (beginning from file.now) lines.entry).printed) }
     ensures front { IfErr result (λ fault. fault ≢ LoadFault.Write → TakesFront W.contents output.old output.new (load_begun at_end (beginning from file.now) lines.entry).printed) }
-    ensures counted { IsLoadCounted P.failures result }
+    ensures counted { IsLoadCounted P.failures from result }
     ensures failed { IsErrOf result LoadFault.Write ↔ IsTrue (writer_failed output.new) }
 {
     match begin(alloc, maker, from, file, listener)? {
@@ -206,7 +207,7 @@ fn put_pairs<P: Pages + Drop, W: Write, L: Listener>(
     ensures left { IfOk result (λ opened. option_map loading_in opened ≡ (loaded at_end (loading_of loader) lines.entry).left) }
     ensures err { OnErr result (TakesBeginning W.contents output.old output.new (loaded at_end (loading_of loader) lines.entry).printed) }
     ensures front { IfErr result (λ fault. fault ≢ LoadFault.Write → TakesFront W.contents output.old output.new (loaded at_end (loading_of loader) lines.entry).printed) }
-    ensures counted { IsLoadCounted P.failures result }
+    ensures counted { IfErr result (λ fault. fault ≡ LoadFault.Page → HasCounted P.failures (file_in loader)) }
     ensures failed { IsErrOf result LoadFault.Write ↔ IsTrue (writer_failed output.new) }
 {
     let records = load_lines(alloc, output, &mut loader, lines, text, listener)?;

@@ -1,8 +1,8 @@
 ghost use Rattle.std.specs.Prelude.{◌≡◌, ◌≢◌, ◌+◌, ◌<◌, ◌≤◌, ◌^◌, ◌++◌, ◌↔◌, length, IfOk, IfErr, OnOk, OnErr, IsErrOf, IsTrue, IsFalse};
 ghost use Rattle.exh_stream.specs.Output.{SameWriter, Takes, TakesBeginning, writer_failed};
 ghost use Rattle.exh_load.specs.Load.{TakesFront, new_count, record_count};
-ghost use Rattle.exh_load.specs.LoadFault.{IsLoadCounted};
-ghost use Rattle.exh_load.specs.Loader.{IsLoading};
+ghost use Rattle.exh_load.specs.LoadFault.{FallsNowhere, HasCounted};
+ghost use Rattle.exh_load.specs.Loader.{IsLoading, file_in};
 ghost use Rattle.exh_load.specs.Loading.{after_pair_line, line_text, loaded_from, loading_of, load_text_from};
 
 use crate::pair_line::{parse_pair_line, push_reply};
@@ -19,8 +19,8 @@ use std::io::Write;
 /// there are more, the greatest `u64` where they are still more. The lines are of a whole text, and the listener is told
 /// of each. On an `Err` a beginning of that text went out, and the loader can be used no more.
 ///
-/// `Write`: the writer failed or took no bytes. `Memory`: a growth was refused. `Page`: a page couldn't be reached, which a
-/// store has counted.
+/// `Write`: the writer failed or took no bytes. `Memory`: a growth was refused. `Page`: a page couldn't be reached, which
+/// the store of a ward of the loader has counted since.
 pub fn load_lines<P: Pages + Drop, W: Write, L: Listener>(
     alloc: Global,
     output: &mut Output<'_, W>,
@@ -38,7 +38,7 @@ pub fn load_lines<P: Pages + Drop, W: Write, L: Listener>(
     ensures err { OnErr result (TakesBeginning W.contents output.old output.new (load_text_from (loading_of loader.old) lines.entry)) }
     ensures front { IfErr result (λ fault. fault ≢ LoadFault.Write → TakesFront W.contents output.old output.new (load_text_from (loading_of loader.old) lines.entry)) }
     ensures records { IfOk result (λ records. length lines.entry < 2 ^ 64 → records + record_count (loading_of loader.old) ≡ record_count (loading_of loader.new)) }
-    ensures counted { IsLoadCounted P.failures result }
+    ensures counted { IfErr result (λ fault. fault ≡ LoadFault.Page → HasCounted P.failures (file_in loader.old)) }
     ensures failed { IsErrOf result LoadFault.Write ↔ IsTrue (writer_failed output.new) }
 {
     let mut records = 0u64;
@@ -70,6 +70,8 @@ pub(crate) fn put_line<P: Pages + Drop, W: Write>(
     ensures few { IfOk result (λ more. more ≤ 1) }
     ensures err { OnErr result (TakesBeginning W.contents output.old output.new (line_text (loading_of loader.old) line.now)) }
     ensures front { IfErr result (λ fault. fault ≢ LoadFault.Write → output.new ≡ output.old) }
+    ensures counted { IfErr result (λ fault. fault ≡ LoadFault.Page → HasCounted P.failures (file_in loader.old)) }
+    ensures falls { OnOk result (FallsNowhere (file_in loader.old) (file_in loader.new)) }
     ensures failed { IsErrOf result LoadFault.Write ↔ IsTrue (writer_failed output.new) }
 {
     text.clear();
@@ -92,14 +94,17 @@ fn push_line<P: Pages + Drop>(
     ensures records { IfOk result (λ more. more + record_count (loading_of loader.old) ≡ record_count (loading_of loader.new)) }
     ensures few { IfOk result (λ more. more ≤ 1) }
     ensures fault { IfErr result (λ fault. fault ≢ LoadFault.Write) }
-    ensures counted { IsLoadCounted P.failures result }
+    ensures counted { IfErr result (λ fault. fault ≡ LoadFault.Page → HasCounted P.failures (file_in loader.old)) }
+    ensures falls { OnOk result (FallsNowhere (file_in loader.old) (file_in loader.new)) }
 {
     match parse_pair_line(line) {
-        Ok((key, value)) => {
-            let reply = loader.put(key, value).map_err(LoadFault::of_ward)?;
-            push_reply(out, &key, &reply)?;
-            Ok(new_count(&reply))
-        }
+        Ok((key, value)) => match loader.put(key, value) {
+            Ok(reply) => {
+                push_reply(out, &key, &reply)?;
+                Ok(new_count(&reply))
+            }
+            Err(fault) => Err(LoadFault::of_ward(fault)),
+        },
         Err(fault) => {
             push_refused(out, fault.number())?;
             push_text(out, "\n")?;

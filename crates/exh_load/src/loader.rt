@@ -1,4 +1,4 @@
-ghost use Rattle.std.specs.Prelude.{◌≡◌, ◌+◌, ◌≤◌, ◌^◌, ℕ, length, IfOk, IfErr, OnErr, OnOk};
+ghost use Rattle.std.specs.Prelude.{◌≡◌, ◌+◌, ◌<◌, ◌≤◌, ◌^◌, ℕ, length, IfOk, IfErr, OnErr, OnOk};
 ghost use Rattle.exh_page.specs.declared.page.TheConstants.{CAP_LIMIT};
 ghost use Rattle.exh_prefix.specs.declared.prefix.TheConstants.{WARD_BITS_LIMIT};
 ghost use Rattle.exh_array.specs.Pointers.{DirectoryState};
@@ -6,12 +6,13 @@ ghost use Rattle.exh_calls.specs.declared.call.Call.TheVariants.{Put};
 ghost use Rattle.exh_file.specs.FileChange.{ChangesOneMap};
 ghost use Rattle.exh_file.specs.Opened.{settings_in};
 ghost use Rattle.exh_ward.specs.WardFault.{IsStoreFault};
+ghost use Rattle.exh_ward.specs.declared.ward_fault.WardFault.TheVariants.{Page as OutOfReach};
 ghost use Rattle.exh_keyer.specs.Pseudokey.{any_pseudokey};
 ghost use Rattle.exh_prefix.specs.Prefix.{Begins};
 ghost use Rattle.exh_file.specs.WardChange.{AreSplitsAtMost, IsChanged};
 ghost use Rattle.exh_ward.specs.WardState.{IsSoundWard, own_prefix};
 ghost use Rattle.exh_load.specs.Load.{empty_loading, new_count, record_count};
-ghost use Rattle.exh_load.specs.LoadFault.{IsPutCounted};
+ghost use Rattle.exh_load.specs.LoadFault.{FallsNowhere, HasCountedIn};
 ghost use Rattle.exh_load.specs.Put.{IsDirectoryOf};
 ghost use Rattle.exh_load.specs.Loading.{after_pair, loading_of, pair_reply};
 ghost use Rattle.exh_load.specs.Loader.{AreEach, HasSplitsIn, IsDirectoryAt, IsEmptyDirectory, IsEmptyLoader, IsLoading, IsPutIn, file_in};
@@ -96,8 +97,9 @@ impl<P: Pages + Drop> Loader<P> {
 
     /// Puts a pair into the ward of its key, and splits pages where they are full for it, as `put_pair`
     /// does. The key is hashed once. The ward's history begins anew once its journal has outgrown its base,
-    /// unless that is refused, so that no journal grows with the text. `Memory` and `Page` may come at any point, `Page` where the store has counted it: splits that were made stay made, and no more
-    /// pairs can be put then, since a directory may lack a notice.
+    /// unless that is refused, so that no journal grows with the text. `Memory` and `Page` may come at any point, `Page` where the
+    /// store of the key's ward has counted it: splits that were made stay made, and no more pairs can be put then,
+    /// since a directory may lack a notice.
     pub fn put(&mut self, key: Key, value: Value) -> Result<Reply, WardFault>
         requires { IsLoading self.old }
         ensures put { IfOk result (λ reply. IsPutIn (file_in self.old) key value reply (file_in self.new)) }
@@ -108,7 +110,8 @@ impl<P: Pages + Drop> Loader<P> {
         ensures loading { OnOk result (IsLoading self.new) }
         ensures err { OnErr result (HasSplitsIn self.old key self.new) }
         ensures fault { IfErr result IsStoreFault }
-        ensures counted { IsPutCounted P.failures result }
+        ensures counted { IfErr result (λ fault. fault ≡ OutOfReach → HasCountedIn P.failures (file_in self.old) key (file_in self.new)) }
+        ensures falls { OnOk result (FallsNowhere (file_in self.old) (file_in self.new)) }
     {
         let pseudokey = self.settings.keyer.pseudo(key.as_bytes());
         let at = usize::from(ward_number(self.settings.ward_bits, pseudokey));
@@ -150,7 +153,8 @@ fn put_counted<P: Pages + Drop>(
     ensures err { OnErr result (AreSplitsAtMost ward.old ward.new) }
     ensures fault { IfErr result IsStoreFault }
     ensures sound { IsSoundWard any_pseudokey ward.new }
-    ensures counted { IsPutCounted P.failures result }
+    ensures failures { OnOk result (ward.new.failures ≡ ward.old.failures) }
+    ensures counted { IfErr result (λ fault. fault ≡ OutOfReach → (ward.old.failures < ward.new.failures) × ((store : P) × (P.failures store ≡ ward.new.failures))) }
 {
     let put = put_pair(ward, directory, key, value, pseudokey);
     ward.failures();

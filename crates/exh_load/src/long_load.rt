@@ -8,7 +8,8 @@ ghost use Rattle.exh_text.specs.FileLine.{file_line_of, settings_in_range};
 ghost use Rattle.exh_text.specs.declared.settings.Settings.{Settings};
 ghost use Rattle.exh_load.specs.LineSource.{BreaksOff, EndsRight, HasPassed, PutsLines, break_number, text_left};
 ghost use Rattle.exh_load.specs.Load.{Beginning, Loads, Prints, PrintsFront, TakesFront, beginning, refused};
-ghost use Rattle.exh_load.specs.Loader.{IsLoading};
+ghost use Rattle.exh_load.specs.LoadFault.{HasCounted, IsLoadCounted};
+ghost use Rattle.exh_load.specs.Loader.{IsLoading, file_in};
 ghost use Rattle.exh_load.specs.Loading.{loading_in, loading_of};
 ghost use Rattle.exh_load.specs.LongLoad.{IsLongLoad, LoadTakes};
 
@@ -35,7 +36,8 @@ use std::io::{Read, Write};
 /// if it were the text; `number` has the line's number in the text then.
 ///
 /// `Write`: the writer failed or took no bytes, and got a beginning of what is printed. `Memory`: a growth was refused.
-/// `Page`: a page couldn't be reached. After these two the writer got whole lines of it.
+/// `Page`: a page couldn't be reached, which a store has counted, as in `load`. After these two the writer got whole
+/// lines of it.
 pub fn load_long<P: Pages + Drop, M: StoreMaker<P, AnyKeyer>, R: Read, W: Write, L: Listener>(
     alloc: Global,
     maker: &M,
@@ -48,6 +50,7 @@ pub fn load_long<P: Pages + Drop, M: StoreMaker<P, AnyKeyer>, R: Read, W: Write,
     ensures ok { IfOk result (λ file. Loads (IsLongLoad (beginning from) (R.remaining reader.old)) (Appends (W.contents writer.old) (W.contents writer.new)) file) }
     ensures err { OnErr result (Prints (IsLongLoad (beginning from) (R.remaining reader.old)) (AppendsBeginning (W.contents writer.old) (W.contents writer.new))) }
     ensures memory { IfErr result (λ fault. fault ≢ LoadFault.Write → PrintsFront (IsLongLoad (beginning from) (R.remaining reader.old)) (Appends (W.contents writer.old) (W.contents writer.new))) }
+    ensures counted { IsLoadCounted P.failures from result }
 {
     load_all(
         alloc,
@@ -78,6 +81,7 @@ fn load_all<P: Pages + Drop, M: StoreMaker<P, AnyKeyer>, R: Read, W: Write, L: L
     ensures ok { IfOk result (λ file. Loads (IsLongLoad (beginning from) (text_left R.remaining lines.old)) (Appends (held W.contents output.old) (held W.contents output.new)) file) }
     ensures err { OnErr result (Prints (IsLongLoad (beginning from) (text_left R.remaining lines.old)) (AppendsBeginning (held W.contents output.old) (held W.contents output.new))) }
     ensures memory { IfErr result (λ fault. fault ≢ LoadFault.Write → PrintsFront (IsLongLoad (beginning from) (text_left R.remaining lines.old)) (Appends (held W.contents output.old) (held W.contents output.new))) }
+    ensures counted { IsLoadCounted P.failures from result }
 {
     let loaded = load_lines_of(alloc, maker, from, lines, output, listener, number);
     output.finish()?;
@@ -99,6 +103,7 @@ fn load_lines_of<P: Pages + Drop, M: StoreMaker<P, AnyKeyer>, R: Read, W: Write,
     ensures same_reader { SameReader lines.old.source lines.new.source }
     ensures same_writer { SameWriter output.old output.new }
     ensures loads { LoadTakes W.contents (IsLongLoad (beginning from) (text_left R.remaining lines.old)) output.old output.new result }
+    ensures counted { IsLoadCounted P.failures from result }
     ensures failed { IsErrOf result LoadFault.Write ↔ IsTrue (writer_failed output.new) }
 {
     match lines.next_line() {
@@ -123,6 +128,7 @@ fn load_first<P: Pages + Drop, M: StoreMaker<P, AnyKeyer>, R: Read, W: Write, L:
     ensures same_reader { SameReader lines.old.source lines.new.source }
     ensures same_writer { SameWriter output.old output.new }
     ensures loads { (known : Option (List ℕ)) → HasPassed R.remaining known lines.old (lines.old.line.items ∷ []) → LoadTakes W.contents (IsLongLoad (beginning from) known) output.old output.new result }
+    ensures counted { IsLoadCounted P.failures from result }
     ensures failed { IsErrOf result LoadFault.Write ↔ IsTrue (writer_failed output.new) }
 {
     match parse_file_line(lines.line()) {
@@ -154,6 +160,7 @@ fn load_pairs<P: Pages + Drop, M: StoreMaker<P, AnyKeyer>, R: Read, W: Write, L:
     ensures same_reader { SameReader lines.old.source lines.new.source }
     ensures same_writer { SameWriter output.old output.new }
     ensures loads { (known : Option (List ℕ)) (line : List ℕ) → file_line_of line ≡ Ok settings.now → HasPassed R.remaining known lines.old (line ∷ []) → LoadTakes W.contents (IsLongLoad (beginning from) known) output.old output.new result }
+    ensures counted { IsLoadCounted P.failures from result }
     ensures failed { IsErrOf result LoadFault.Write ↔ IsTrue (writer_failed output.new) }
 {
     match begin(alloc, maker, from, &settings.file, listener)? {
@@ -178,6 +185,7 @@ fn put_pairs<P: Pages + Drop, R: Read, W: Write, L: Listener>(
     ensures same_writer { SameWriter output.old output.new }
     ensures loads { (known : Option (List ℕ)) (begin : Beginning) (line : List ℕ) (settings : Settings) → file_line_of line ≡ Ok settings → begin settings.file ≡ Ok (loading_of loader)
         → HasPassed R.remaining known lines.old (line ∷ []) → LoadTakes W.contents (IsLongLoad begin known) output.old output.new result }
+    ensures counted { IfErr result (λ fault. fault ≡ LoadFault.Page → HasCounted P.failures (file_in loader)) }
     ensures failed { IsErrOf result LoadFault.Write ↔ IsTrue (writer_failed output.new) }
 {
     match put_lines(alloc, output, &mut loader, lines, listener, number)? {
@@ -208,6 +216,7 @@ fn put_lines<P: Pages + Drop, R: Read, W: Write, L: Listener>(
     ensures put { IfOk result (λ ended. PutsLines R.remaining W.contents lines.old output.old output.new (loading_of loader.old) (loading_of loader.new) ended) }
     ensures stopped { IfErr result (λ fault. BreaksOff R.remaining W.contents lines.old output.old output.new (loading_of loader.old) fault) }
     ensures open { OnOk result (IsFalse (writer_failed output.new)) }
+    ensures counted { IfErr result (λ fault. fault ≡ LoadFault.Page → HasCounted P.failures (file_in loader.old)) }
     ensures failed { IsErrOf result LoadFault.Write ↔ IsTrue (writer_failed output.new) }
 {
     let mut records = 0u64;
@@ -237,6 +246,7 @@ fn break_off<P: Pages + Drop, W: Write>(
     ensures left { IfOk result (λ file. option_map loading_in file ≡ (refused (break_number fault)).left) }
     ensures err { OnErr result (TakesBeginning W.contents output.old output.new (refused (break_number fault)).printed) }
     ensures front { IfErr result (λ other. other ≢ LoadFault.Write → TakesFront W.contents output.old output.new (refused (break_number fault)).printed) }
+    ensures page { IsErrOf result LoadFault.Page → ⊥ }
     ensures failed { IsErrOf result LoadFault.Write ↔ IsTrue (writer_failed output.new) }
 {
     match fault {

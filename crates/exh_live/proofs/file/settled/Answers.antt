@@ -1,4 +1,4 @@
-use Rattle.std.proofs.Common.{ap, arith}
+use Rattle.std.proofs.Common.{ap, refl, arith}
 use Rattle.exh_calls.specs.declared.settlement.Settled.{Settled}
 use Rattle.exh_live.proofs.file.settled.Goals as goal
 
@@ -19,3 +19,9 @@ returns-in-Err-clause-count g c = tt
 
 pub overflow_cast-result : goal.overflow_cast-result
 overflow_cast-result g c = omega (arith, ap (λ (settled : Settled). settled.answers) c.in-Ok.ensures.1, c.requires.few)
+
+pub returns-in-Ok-clause-fault : goal.returns-in-Ok-clause-fault
+returns-in-Ok-clause-fault g c = tt
+
+pub returns-in-Err-clause-fault : goal.returns-in-Err-clause-fault
+returns-in-Err-clause-fault g c = (refl, c.in-Err.ensures)

@@ -4,6 +4,7 @@ use Rattle.exh_stream.specs.OutputLemmas.{OnErr-from, stays_open}
 use Rattle.exh_load.specs.Loading.{loading_in, loading_of}
 use Rattle.exh_load.proofs.Exits.{no_fault, not_closed, same_fault}
 use Rattle.exh_load.proofs.Pairs.{handed_on, lines_begun, lines_front, pairs_begun, pairs_front, pairs_out, records_told}
+use Rattle.exh_load.proofs.Counted.{handed}
 use Rattle.exh_load.proofs.load_source.put_pairs.Goals as goal
 
 pub returns-in_err-records-clause-err : goal.returns-in_err-records-clause-err
@@ -82,3 +83,6 @@ returns-clause-failed g c = no_fault _ _ (not_closed _ _ _ c.in_ok-print_number.
 
 pub print_number-requires : goal.print_number-requires
 print_number-requires g c = stays_open _ (not_closed _ _ _ c.in_ok-records.ensures.failed)
+
+pub returns-in_err-records-clause-counted : goal.returns-in_err-records-clause-counted
+returns-in_err-records-clause-counted g c = handed c.in_err-records.field-0.0 _ c.from_residual.result c.in_err-records.ensures.counted c.from_residual.ensures

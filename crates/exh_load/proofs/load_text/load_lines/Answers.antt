@@ -1,12 +1,28 @@
-use Rattle.std.proofs.Common.{[], ◌∷◌, arith, ◌∙◌, ◌++◌, sym, ap, subst, append_assoc}
+use Rattle.std.proofs.Common.{[], ◌∷◌, refl, arith, ◌∙◌, ◌++◌, sym, ap, subst, append_assoc}
 use Rattle.std.proofs.lemmas.List.{length_push}
 use Rattle.exh_stream.specs.Output.{Takes}
-use Rattle.exh_stream.specs.OutputLemmas.{OnErr-from, stays_open}
+use Rattle.exh_stream.specs.OutputLemmas.{OnErr-from, Takes-none, stays_open}
 use Rattle.std.proofs.lemmas.Result.{IfOk-from_err}
 use Rattle.exh_load.specs.Loading.{line_text, loading_of, load_text_from}
 use Rattle.std.proofs.lemmas.Bool.{false≢true}
-use Rattle.exh_load.proofs.Lines.{IfErr-from, LeadTo-more, line_is, line_out, line_stopped, stopped, text_lines, text_of_left, text_of_more, text_of_next}
+use Rattle.exh_load.proofs.Lines.{IfErr-from, LeadTo-more, LeadTo-none, line_is, line_out, line_stopped, stopped, text_lines, text_of_left, text_of_more, text_of_next}
+use Rattle.exh_load.specs.Loader.{file_in}
+use Rattle.exh_load.proofs.Counted.{counted_before, falls_none, falls_then, handed}
 use Rattle.exh_load.proofs.load_text.load_lines.Goals as goal
+
+pub lines-init : goal.lines-init
+lines-init g c = record {
+  same_writer = refl;
+  open_still = c.requires.open;
+  loading = c.requires.loading;
+  falls = falls_none (file_in c.args.loader.now);
+  answered = [];
+  split = sym c.into_iter-line-iterator.ensures.into_iter_gives;
+  lead = LeadTo-none (loading_of c.args.loader.now);
+  counted = λ fits. omega arith;
+  few = omega arith;
+  passed = Takes-none g.W.Write.contents c.args.output.now;
+}
 
 pub returns-in_err-more-clause-err : goal.returns-in_err-more-clause-err
 returns-in_err-more-clause-err g c =
@@ -27,6 +43,7 @@ lines-preserved g c =
       same_writer = c.in_ok-push.ensures.same_writer ∙ i.same_writer;
       open_still = stays_open _ (λ closed. false≢true (c.in_ok-push.ensures.failed.1 closed));
       loading = c.in_ok-more.ensures.loading;
+      falls = falls_then (file_in c.args.loader.now) (file_in c.lines.loader) (file_in c.push_line.new.loader) i.falls c.in_ok-more.ensures.falls;
       answered = i.answered ++ line ∷ [];
       split = i.split ∙ ap (λ l. i.answered ++ l) c.in-Some.ensures.steps ∙ sym (append_assoc i.answered (line ∷ []) c.next.new.self);
       lead = LeadTo-more first now i.answered i.lead line next c.in_ok-more.ensures.loaded;
@@ -94,3 +111,7 @@ returns-clause-loading g c = c.lines.invariant.loading
 
 pub returns-clause-same_writer : goal.returns-clause-same_writer
 returns-clause-same_writer g c = c.lines.invariant.same_writer
+
+pub returns-in_err-more-clause-counted : goal.returns-in_err-more-clause-counted
+returns-in_err-more-clause-counted g c =
+    handed c.in_err-more.field-0.0 _ c.from_residual.result (λ page. counted_before g.P.Pages.failures (file_in c.args.loader.now) (file_in c.lines.loader) c.lines.invariant.falls (c.in_err-more.ensures.counted page)) c.from_residual.ensures

@@ -6,6 +6,7 @@ use Rattle.exh_load.specs.Loading.{loading_of}
 use Rattle.std.proofs.lemmas.Bool.{false≢true}
 use Rattle.exh_load.proofs.Exits.{no_fault, only_writer, other_fault, writer_fault}
 use Rattle.exh_load.proofs.Lines.{IfErr-from, line_is}
+use Rattle.exh_load.proofs.Counted.{handed}
 use Rattle.exh_load.proofs.load_text.put_line.Goals as goal
 
 pub returns-in_err-more-clause-same_writer : goal.returns-in_err-more-clause-same_writer
@@ -92,3 +93,9 @@ returns-clause-front g c = tt
 
 pub returns-clause-failed : goal.returns-clause-failed
 returns-clause-failed g c = no_fault _ _ (λ closed. false≢true (c.in_ok-push.ensures.failed.1 closed))
+
+pub returns-in_err-more-clause-counted : goal.returns-in_err-more-clause-counted
+returns-in_err-more-clause-counted g c = handed c.in_err-more.field-0.0 _ c.from_residual.result c.in_err-more.ensures.counted c.from_residual.ensures
+
+pub returns-clause-falls : goal.returns-clause-falls
+returns-clause-falls g c = c.in_ok-more.ensures.falls

@@ -1,4 +1,9 @@
 use Rattle.std.proofs.Common.{[], ◌∷◌, sym, ap, ◌∙◌, subst, refl}
+use Rattle.std.proofs.lemmas.Result.{IfErr-weaker}
+use Rattle.std.specs.Prelude.{IfSome}
+use Rattle.exh_load.specs.LoadFault.{BeginsFrom}
+use Rattle.exh_load.specs.Loader.{file_in}
+use Rattle.exh_load.proofs.Counted.{from_begun}
 use Rattle.exh_load.specs.Load.{IsBegun, at_end, beginning, load_after, load_begun, refused}
 use Rattle.exh_load.specs.LongLoad.{IsLongLoad, broken_off}
 use Rattle.exh_load.proofs.Loads.{front_none}
@@ -14,12 +19,12 @@ returns-in_err-loader-clause-loads g c = λ known line read passed.
 
 pub returns-in-Some-clause-loads : goal.returns-in-Some-clause-loads
 returns-in-Some-clause-loads g c = λ known line read passed.
-    let begun = (subst (IsBegun (beginning c.args.from c.args.settings.now.file)) c.in-Some.is c.in_ok-loader.ensures).0 in
+    let begun = (subst (IsBegun (beginning c.args.from c.args.settings.now.file)) c.in-Some.is c.in_ok-loader.ensures.begun).0 in
     c.put_pairs.ensures.loads known (beginning c.args.from) line c.args.settings.now read begun passed
 
 pub returns-in-None-clause-loads : goal.returns-in-None-clause-loads
 returns-in-None-clause-loads g c = λ known line read passed.
-    let begun = subst (IsBegun (beginning c.args.from c.args.settings.now.file)) c.in-None.is c.in_ok-loader.ensures in
+    let begun = subst (IsBegun (beginning c.args.from c.args.settings.now.file)) c.in-None.is c.in_ok-loader.ensures.begun in
     let begin = beginning c.args.from in
     let is = long_either begin known (line ∷ []) (refused 63) (some_taken g.R.Read.remaining known c.args.lines.now (line ∷ []) passed c.requires.ends)
     (sym (ap (λ r. load_after at_end begin r []) read ∙ ap (λ b. load_begun at_end b []) begun)) (sym (ap (λ r. load_after (broken_off 41) begin r []) read ∙ ap (λ b. load_begun (broken_off 41) b []) begun)) in
@@ -54,3 +59,8 @@ returns-in-Some-clause-same_writer g c = c.put_pairs.ensures.same_writer
 
 pub returns-in-Some-clause-failed : goal.returns-in-Some-clause-failed
 returns-in-Some-clause-failed g c = c.put_pairs.ensures.failed
+
+pub returns-in-Some-clause-counted : goal.returns-in-Some-clause-counted
+returns-in-Some-clause-counted g c =
+    let from = subst (λ begun. IfSome begun (λ loader. BeginsFrom c.args.from (file_in loader))) c.in-Some.is c.in_ok-loader.ensures.from in
+    IfErr-weaker c.put_pairs.result _ _ (λ fault counted page. from_begun g.P.Pages.failures c.args.from (file_in c.in-Some.loader) from (counted page)) c.put_pairs.ensures.counted

@@ -7,6 +7,8 @@ use Rattle.exh_load.proofs.Exits.{not_closed}
 use Rattle.exh_load.proofs.Lines.{LeadTo-more, LeadTo-none}
 use Rattle.exh_load.proofs.LongLoads.{all_put, more_passed, more_taken, some_endless, some_read, stopped_on}
 use Rattle.exh_load.proofs.TextLines.{passes_none}
+use Rattle.exh_load.specs.Loader.{file_in}
+use Rattle.exh_load.proofs.Counted.{counted_before, falls_none, falls_then, handed}
 use Rattle.exh_load.proofs.long_load.put_lines.Goals as goal
 
 pub turns-init : goal.turns-init
@@ -16,6 +18,7 @@ turns-init g c = record {
   ends = c.requires.ends;
   open_still = c.requires.open;
   loading = c.requires.loading;
+  falls = falls_none (file_in c.args.loader.now);
   put = [];
   passed = passes_none g.R.Read.remaining c.args.lines.now;
   lead = LeadTo-none (loading_of c.args.loader.now);
@@ -64,6 +67,7 @@ turns-preserved g c =
       ends = c.in-Ok-true.ensures.ends;
       open_still = stays_open _ (not_closed _ _ _ c.in_ok-records.ensures.failed);
       loading = c.in_ok-records.ensures.loading;
+      falls = falls_then (file_in c.args.loader.now) (file_in c.turns.loader) (file_in c.put_line.new.loader) i.falls c.in_ok-records.ensures.falls;
       put = i.put ++ line ∷ [];
       passed = more_passed R g.W.Write.contents c.args.lines.now c.turns.lines c.next_line.new.self c.args.output.now c.turns.output c.put_line.new.output first now (loading_of c.put_line.new.loader) i.put i.lead i.passed i.taken c.in-Ok-true.ensures.ends line on;
       lead = LeadTo-more first now i.put i.lead line (loading_of c.put_line.new.loader) c.in_ok-records.ensures.loaded;
@@ -124,3 +128,7 @@ returns-clause-same_writer g c = c.turns.invariant.same_writer
 
 pub returns-clause-same_reader : goal.returns-clause-same_reader
 returns-clause-same_reader g c = c.turns.invariant.same_reader
+
+pub returns-in_err-records-clause-counted : goal.returns-in_err-records-clause-counted
+returns-in_err-records-clause-counted g c =
+    handed c.in_err-records.field-0.0 _ c.from_residual.result (λ page. counted_before g.P.Pages.failures (file_in c.args.loader.now) (file_in c.turns.loader) c.turns.invariant.falls (c.in_err-records.ensures.counted page)) c.from_residual.ensures

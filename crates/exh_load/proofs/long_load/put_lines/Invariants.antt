@@ -3,12 +3,13 @@ use Rattle.exh_stream.specs.Output.{SameWriter, Takes, writer_failed}
 use Rattle.exh_stream.specs.Source.{SameReader}
 use Rattle.exh_load.specs.LineSource.{EndsRight, Passes}
 use Rattle.exh_load.specs.Load.{record_count}
-use Rattle.exh_load.specs.Loader.{IsLoading}
+use Rattle.exh_load.specs.LoadFault.{FallsNowhere}
+use Rattle.exh_load.specs.Loader.{IsLoading, file_in}
 use Rattle.exh_load.specs.Loading.{loading_of, load_text_from}
 use Rattle.exh_load.proofs.Lines.{LeadTo}
 use Rattle.exh_load.proofs.long_load.put_lines.Given as goal
 
--- reader and writer are the ones they were, the loader can be used, the lines so far were put, told and counted
+-- reader and writer are the ones they were, the loader can be used, no ward counts less, the lines so far were put, told and counted
 abbrev pub invariant-turns : goal.invariant-turns
 invariant-turns g l = record {
   same_reader : SameReader l.fn.lines.source l.lines.source;
@@ -16,6 +17,7 @@ invariant-turns g l = record {
   ends : EndsRight g.R.Read.remaining l.lines;
   open_still : IsFalse (writer_failed l.output);
   loading : IsLoading l.loader;
+  falls : FallsNowhere (file_in l.fn.loader) (file_in l.loader);
   put : List (List ℕ);
   passed : Passes g.R.Read.remaining l.fn.lines l.lines put;
   lead : LeadTo (loading_of l.fn.loader) (loading_of l.loader) put;

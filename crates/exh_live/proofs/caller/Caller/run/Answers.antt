@@ -2,6 +2,8 @@ use Rattle.std.proofs.Common.{◌≡◌, ℕ, List, [], ap, refl, sym, subst, �
 use Rattle.std.proofs.lemmas.Option.{slice_get_within}
 use Rattle.std.proofs.lemmas.Result.{IfOk-from_err}
 use Rattle.exh_calls.specs.declared.diary_entry.DiaryEntry.{DiaryEntry}
+use Rattle.exh_ward.specs.declared.ward_fault.WardFault.TheVariants.{Page as OutOfReach}
+use Rattle.exh_live_file.specs.Refused.{IsSomeWardsFault}
 use Rattle.exh_live.specs.StormCalls.{AreStormCalls, storm_call}
 use Rattle.exh_live.proofs.Calls.{one_call_more}
 use Rattle.exh_live.proofs.RoundsOn.{caller_refused, so_many}
@@ -21,8 +23,8 @@ pub returns-in_err-ask-clause-fault : goal.returns-in_err-ask-clause-fault
 returns-in_err-ask-clause-fault g c =
     let own = c.client-client.ensures.client ∙ c.diary.ensures.0 in
     let call = c.storm_call-call.ensures ∙ ap (λ client. storm_call client (c.loop-done.done + 1)) own in
-    caller_refused g.K.Keyer.pseudokey_of g.F.Identity.hashing g.S.Start.table g.S.Start.ward_bits (g.G.Gate.may c.args.gate.now) c.args.self.seat.client c.loop-done.seat.client c.loop-done.done c.args.calls c.storm_call-call.result c.loop-done.copy c.ask.new.copy
-    c.in_err-ask.field-0.0 c.from_residual.result (sym c.loop-done.invariant.0 ∙ own) call (omega (arith, c.loop-done-test.true)) c.in_err-ask.ensures.walk c.from_residual.ensures
+    caller_refused (IsSomeWardsFault g.P.Pages.failures g.K.Keyer.pseudokey_of OutOfReach) g.K.Keyer.pseudokey_of g.F.Identity.hashing g.S.Start.table g.S.Start.ward_bits (g.G.Gate.may c.args.gate.now) c.args.self.seat.client c.loop-done.seat.client c.loop-done.done c.args.calls c.storm_call-call.result c.loop-done.copy c.ask.new.copy
+    c.in_err-ask.field-0.0 c.from_residual.result (sym c.loop-done.invariant.0 ∙ own) call (omega (arith, c.loop-done-test.true)) c.in_err-ask.ensures.walk c.from_residual.ensures c.in_err-ask.ensures.counted
 
 pub returns-in_err-ask-clause-served : goal.returns-in_err-ask-clause-served
 returns-in_err-ask-clause-served g c = IfOk-from_err c.from_residual.result _ c.from_residual.ensures.0

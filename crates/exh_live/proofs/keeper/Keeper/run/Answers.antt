@@ -1,7 +1,14 @@
 use Rattle.std.proofs.Common.{◌+◌, subst}
 use Rattle.exh_live.specs.declared.keeper.TheConstants.{KEEPER_CLIENT}
-use Rattle.exh_live.proofs.RoundsOn.{keeper_round_more}
+use Rattle.exh_live_file.specs.Refused.{IsSomeWardsFault}
+use Rattle.exh_ward.specs.declared.ward_fault.WardFault.{WardFault}
+use Rattle.exh_live.proofs.RoundsOn.{keeper_refused, keeper_round_more}
 use Rattle.exh_live.proofs.keeper.Keeper.run.Goals as goal
+
+pub returns-in-Err-clause-fault : goal.returns-in-Err-clause-fault
+returns-in-Err-clause-fault g c =
+    let Refused : WardFault → Type 0 = IsSomeWardsFault g.P.Pages.failures g.K.Keyer.pseudokey_of in
+    keeper_refused (g.G.Gate.may c.args.gate.now (KEEPER_CLIENT + c.args.self.ward)) c.args.rounds c.in-Err.fault c.of_round.result c.in-Err.ensures.fault c.of_round.ensures (λ is. subst Refused is c.in-Err.ensures.refused)
 
 pub loop-done-preserved : goal.loop-done-preserved
 loop-done-preserved g c =

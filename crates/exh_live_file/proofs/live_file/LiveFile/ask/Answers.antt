@@ -1,4 +1,4 @@
-use Rattle.std.proofs.Common.{◌≡◌, ℕ, ◌+◌, List, [], ◌∷◌, ◌++◌, length, append-nil, Option, Some, None, Result, Ok, Err, IfSome, IfNone, unwrap_or, inl, inr, refl, sym, ap, ap₂, ◌∙◌, subst, Bool, false, arith}
+use Rattle.std.proofs.Common.{◌≡◌, ℕ, ◌+◌, List, [], ◌∷◌, ◌++◌, length, append-nil, Option, Some, None, Result, Ok, Err, IfErr, IfSome, IfNone, unwrap_or, inl, inr, refl, sym, ap, ap₂, ◌∙◌, subst, Bool, false, arith}
 use Rattle.std.specs.Prelude.{OnErr, OnOk, is_err}
 use Rattle.std.proofs.lemmas.List.{length_push}
 use Rattle.std.proofs.lemmas.Result.{IfOk-from_err}
@@ -10,6 +10,9 @@ use Rattle.exh_table.specs.TableWalk.{walk_of}
 use Rattle.exh_calls.specs.declared.diary_entry.DiaryEntry.{DiaryEntry}
 use Rattle.exh_walk.specs.declared.ask_fault.AskFault.{AskFault}
 use Rattle.exh_live_file.specs.LiveFile.{LiveState, SeatState}
+use Rattle.exh_live_file.specs.Refused.{IsSomeWardsFault}
+use Rattle.exh_walk.specs.declared.ask_fault.AskFault.TheVariants.{Page}
+use Rattle.exh_ward.specs.declared.ward_fault.WardFault.TheVariants.{Page as OutOfReach}
 use Rattle.exh_live_file.specs.Units.{units_of}
 use Rattle.exh_live_file.specs.Locked.{IsFirstPage, IsLockedWalk}
 use Rattle.std.specs.declared.sync.ledger.Share.{Share}
@@ -100,6 +103,14 @@ returns-clause-walk g c =
     let first = first_page g.S.Start.table g.S.Start.ward_bits c.pseudo-pseudokey.result c.args.copy.now c.look.new.self c.look.result c.unwrap_or-at.result c.look.ensures.page c.look.ensures.none c.unwrap_or-at.ensures in
     let begins = subst (λ pseudokey. IsFirstPage g.S.Start.table g.S.Start.ward_bits c.args.copy.now c.look.new.self pseudokey c.unwrap_or-at.result) hashed first in
     inr (c.unwrap_or-at.result, begins, subst (Walked (g.F.Identity.hashing (key_of c.args.call.now)) c.args.seat.now.client) c.in_ok-reply.was of_key)
+
+pub returns-in_err-reply-clause-counted : goal.returns-in_err-reply-clause-counted
+returns-in_err-reply-clause-counted g c =
+    let Told : Result Reply AskFault → Type 0 = λ result. IfErr result (λ fault. fault ≡ Page → IsSomeWardsFault g.P.Pages.failures g.K.Keyer.pseudokey_of OutOfReach) in
+    of_fault Told c.from_residual.result c.in_err-reply.field-0.0 c.from_residual.ensures (subst Told c.in_err-reply.was c.walk-answers.ensures.counted)
+
+pub returns-clause-counted : goal.returns-clause-counted
+returns-clause-counted g c = tt
 
 pub returns-clause-err : goal.returns-clause-err
 returns-clause-err g c = tt

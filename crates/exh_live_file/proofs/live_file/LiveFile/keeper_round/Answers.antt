@@ -18,9 +18,9 @@ none_more_few now merges page few is = omega (arith, few, is)
 
 pub loop-page-preserved : goal.loop-page-preserved
 loop-page-preserved g c =
-    let merged = c.in_ok-keep.field-0 in
+    let merged = c.in_ok-keep_counted.field-0 in
     let was = c.loop-page.invariant in
-    let turn : IsSomeKeeperTurn g.K.Keyer.pseudokey_of c.loop-page.page merged = (_, _, c.in_ok-keep.ensures.sound, c.in_ok-keep.ensures.kept) in
+    let turn : IsSomeKeeperTurn g.K.Keyer.pseudokey_of c.loop-page.page merged = (_, _, c.in_ok-keep_counted.ensures.sound, c.in_ok-keep_counted.ensures.kept) in
     elim c.if-branch.branch [
       | then-branch w ↦
           let one = ap {B = ℕ} (λ (b : Bool). cond b 1 0) w.if-branch.true in

@@ -5,7 +5,8 @@ use Rattle.exh_calls.specs.declared.call.Call.TheVariants.{Put}
 use Rattle.exh_file.specs.InWardLemmas.{at_within, settings_kept, ward_covers, ward_hashed, wards_left}
 use Rattle.exh_stream.specs.OutputLemmas.{OnErr-from}
 use Rattle.exh_load.specs.Loader.{LoaderState, file_in}
-use Rattle.exh_load.proofs.PutIn.{are_splits_in, begun_keeps, directory_within, loading_left, maps_in, one_put_in, put_in, records_left, reply_in, ward_told}
+use Rattle.exh_load.proofs.Counted.{at_least, fault_as}
+use Rattle.exh_load.proofs.PutIn.{are_splits_in, begun_keeps, counts_in, directory_within, falls_in, loading_left, maps_in, one_put_in, put_in, records_left, reply_in, ward_told}
 use Rattle.exh_load.proofs.loader.Loader.put.Goals as goal
 
 pub index_mut-ward-requires : goal.index_mut-ward-requires
@@ -76,7 +77,7 @@ invariant_of-self-2 g c =
     let at_is : c.from-at.result ≡ ward_of i.settings.ward_bits c.pseudo-pseudokey.result = c.from-at.ensures ∙ c.ward_number.ensures in
     wards_left (file_in old) c.self.invariant (Put c.args.key c.args.value) c.pseudo-pseudokey.result c.from-at.result hashed at_is c.index_mut-ward.result.now c.index_mut-ward.ensures.value c.renew_history.new.ward
     (begun_keeps old c.args.self.now c.self.view_is c.self.invariant c.requires c.args.key c.args.value c.pseudo-pseudokey.result c.from-at.result hashed at_is c.index_mut-ward.result.now c.index_mut-ward.ensures.value c.index_mut-directory.result.now c.index_mut-directory.ensures.value
-    c.put_counted.new.ward c.put_counted.new.directory c.renew_history.new.ward c.renew_history.ensures
+    c.put_counted.new.ward c.put_counted.new.directory c.renew_history.new.ward c.renew_history.ensures.begun
     (settings_kept c.index_mut-ward.result.now c.put_counted.new.ward (Put c.args.key c.args.value) c.put_counted.result c.put_counted.ensures.put c.put_counted.ensures.err))
 
 pub returns-clause-put : goal.returns-clause-put
@@ -86,7 +87,7 @@ returns-clause-put g c =
     let hashed : c.pseudo-pseudokey.result ≡ any_pseudokey i.settings.keyer c.args.key = c.pseudo-pseudokey.ensures ∙ ap (any_pseudokey i.settings.keyer) c.as_bytes.ensures.bytes in
     let at_is : c.from-at.result ≡ ward_of i.settings.ward_bits c.pseudo-pseudokey.result = c.from-at.ensures ∙ c.ward_number.ensures in
     put_in old c.args.self.now c.self.view_is c.self.invariant c.requires c.args.key c.args.value c.pseudo-pseudokey.result c.from-at.result hashed at_is c.index_mut-ward.result.now c.index_mut-ward.ensures.value c.index_mut-directory.result.now c.index_mut-directory.ensures.value
-    c.put_counted.new.ward c.put_counted.new.directory c.renew_history.new.ward c.renew_history.ensures c.in_ok-reply.reply c.in_ok-reply.ensures.put
+    c.put_counted.new.ward c.put_counted.new.directory c.renew_history.new.ward c.renew_history.ensures.begun c.in_ok-reply.reply c.in_ok-reply.ensures.put
 
 pub returns-clause-one : goal.returns-clause-one
 returns-clause-one g c =
@@ -95,7 +96,7 @@ returns-clause-one g c =
     let hashed : c.pseudo-pseudokey.result ≡ any_pseudokey i.settings.keyer c.args.key = c.pseudo-pseudokey.ensures ∙ ap (any_pseudokey i.settings.keyer) c.as_bytes.ensures.bytes in
     let at_is : c.from-at.result ≡ ward_of i.settings.ward_bits c.pseudo-pseudokey.result = c.from-at.ensures ∙ c.ward_number.ensures in
     one_put_in old c.args.self.now c.self.view_is c.self.invariant c.requires c.args.key c.args.value c.pseudo-pseudokey.result c.from-at.result hashed at_is c.index_mut-ward.result.now c.index_mut-ward.ensures.value c.index_mut-directory.result.now c.index_mut-directory.ensures.value
-    c.put_counted.new.ward c.put_counted.new.directory c.renew_history.new.ward c.renew_history.ensures c.in_ok-reply.reply c.in_ok-reply.ensures.put
+    c.put_counted.new.ward c.put_counted.new.directory c.renew_history.new.ward c.renew_history.ensures.begun c.in_ok-reply.reply c.in_ok-reply.ensures.put
 
 pub returns-clause-reply : goal.returns-clause-reply
 returns-clause-reply g c =
@@ -104,7 +105,7 @@ returns-clause-reply g c =
     let hashed : c.pseudo-pseudokey.result ≡ any_pseudokey i.settings.keyer c.args.key = c.pseudo-pseudokey.ensures ∙ ap (any_pseudokey i.settings.keyer) c.as_bytes.ensures.bytes in
     let at_is : c.from-at.result ≡ ward_of i.settings.ward_bits c.pseudo-pseudokey.result = c.from-at.ensures ∙ c.ward_number.ensures in
     reply_in old c.args.self.now c.self.view_is c.self.invariant c.requires c.args.key c.args.value c.pseudo-pseudokey.result c.from-at.result hashed at_is c.index_mut-ward.result.now c.index_mut-ward.ensures.value c.index_mut-directory.result.now c.index_mut-directory.ensures.value
-    c.put_counted.new.ward c.put_counted.new.directory c.renew_history.new.ward c.renew_history.ensures c.in_ok-reply.reply c.in_ok-reply.ensures.put
+    c.put_counted.new.ward c.put_counted.new.directory c.renew_history.new.ward c.renew_history.ensures.begun c.in_ok-reply.reply c.in_ok-reply.ensures.put
 
 pub returns-clause-maps : goal.returns-clause-maps
 returns-clause-maps g c =
@@ -113,7 +114,7 @@ returns-clause-maps g c =
     let hashed : c.pseudo-pseudokey.result ≡ any_pseudokey i.settings.keyer c.args.key = c.pseudo-pseudokey.ensures ∙ ap (any_pseudokey i.settings.keyer) c.as_bytes.ensures.bytes in
     let at_is : c.from-at.result ≡ ward_of i.settings.ward_bits c.pseudo-pseudokey.result = c.from-at.ensures ∙ c.ward_number.ensures in
     maps_in old c.args.self.now c.self.view_is c.self.invariant c.requires c.args.key c.args.value c.pseudo-pseudokey.result c.from-at.result hashed at_is c.index_mut-ward.result.now c.index_mut-ward.ensures.value c.index_mut-directory.result.now c.index_mut-directory.ensures.value
-    c.put_counted.new.ward c.put_counted.new.directory c.renew_history.new.ward c.renew_history.ensures c.in_ok-reply.reply c.in_ok-reply.ensures.put
+    c.put_counted.new.ward c.put_counted.new.directory c.renew_history.new.ward c.renew_history.ensures.begun c.in_ok-reply.reply c.in_ok-reply.ensures.put
 
 pub returns-clause-records : goal.returns-clause-records
 returns-clause-records g c =
@@ -122,7 +123,7 @@ returns-clause-records g c =
     let hashed : c.pseudo-pseudokey.result ≡ any_pseudokey i.settings.keyer c.args.key = c.pseudo-pseudokey.ensures ∙ ap (any_pseudokey i.settings.keyer) c.as_bytes.ensures.bytes in
     let at_is : c.from-at.result ≡ ward_of i.settings.ward_bits c.pseudo-pseudokey.result = c.from-at.ensures ∙ c.ward_number.ensures in
     records_left old c.args.self.now c.self.view_is c.self.invariant c.requires c.args.key c.args.value c.pseudo-pseudokey.result c.from-at.result hashed at_is c.index_mut-ward.result.now c.index_mut-ward.ensures.value c.index_mut-directory.result.now c.index_mut-directory.ensures.value
-    c.put_counted.new.ward c.put_counted.new.directory c.renew_history.new.ward c.renew_history.ensures c.in_ok-reply.reply c.in_ok-reply.ensures.put
+    c.put_counted.new.ward c.put_counted.new.directory c.renew_history.new.ward c.renew_history.ensures.begun c.in_ok-reply.reply c.in_ok-reply.ensures.put
 
 pub returns-clause-loading : goal.returns-clause-loading
 returns-clause-loading g c =
@@ -131,4 +132,24 @@ returns-clause-loading g c =
     let hashed : c.pseudo-pseudokey.result ≡ any_pseudokey i.settings.keyer c.args.key = c.pseudo-pseudokey.ensures ∙ ap (any_pseudokey i.settings.keyer) c.as_bytes.ensures.bytes in
     let at_is : c.from-at.result ≡ ward_of i.settings.ward_bits c.pseudo-pseudokey.result = c.from-at.ensures ∙ c.ward_number.ensures in
     loading_left old c.args.self.now c.self.view_is c.self.invariant c.requires c.args.key c.args.value c.pseudo-pseudokey.result c.from-at.result hashed at_is c.index_mut-ward.result.now c.index_mut-ward.ensures.value c.index_mut-directory.result.now c.index_mut-directory.ensures.value
-    c.put_counted.new.ward c.put_counted.new.directory c.renew_history.new.ward c.renew_history.ensures c.in_ok-reply.ensures.told
+    c.put_counted.new.ward c.put_counted.new.directory c.renew_history.new.ward c.renew_history.ensures.begun c.in_ok-reply.ensures.told
+
+pub returns-in_err-reply-clause-counted : goal.returns-in_err-reply-clause-counted
+returns-in_err-reply-clause-counted g c =
+    let i = c.self.inside in
+    let old : LoaderState = record { cap = i.settings.cap; ward_bits = i.settings.ward_bits; keyer = i.settings.keyer; wards = i.wards.items; directories = i.directories.items } in
+    let hashed : c.pseudo-pseudokey.result ≡ any_pseudokey i.settings.keyer c.args.key = c.pseudo-pseudokey.ensures ∙ ap (any_pseudokey i.settings.keyer) c.as_bytes.ensures.bytes in
+    let at_is : c.from-at.result ≡ ward_of i.settings.ward_bits c.pseudo-pseudokey.result = c.from-at.ensures ∙ c.ward_number.ensures in
+    fault_as c.in_err-reply.field-0.0 _ c.from_residual.result (λ page.
+    let counted = c.in_err-reply.ensures.counted page in
+    counts_in old c.args.self.now c.self.view_is c.self.invariant c.requires c.args.key c.args.value c.pseudo-pseudokey.result c.from-at.result hashed at_is c.index_mut-ward.result.now c.index_mut-ward.ensures.value c.index_mut-directory.result.now c.index_mut-directory.ensures.value
+    c.put_counted.new.ward c.put_counted.new.directory g.P.Pages.failures counted.0 counted.1) c.from_residual.ensures
+
+pub returns-clause-falls : goal.returns-clause-falls
+returns-clause-falls g c =
+    let i = c.self.inside in
+    let old : LoaderState = record { cap = i.settings.cap; ward_bits = i.settings.ward_bits; keyer = i.settings.keyer; wards = i.wards.items; directories = i.directories.items } in
+    let hashed : c.pseudo-pseudokey.result ≡ any_pseudokey i.settings.keyer c.args.key = c.pseudo-pseudokey.ensures ∙ ap (any_pseudokey i.settings.keyer) c.as_bytes.ensures.bytes in
+    let at_is : c.from-at.result ≡ ward_of i.settings.ward_bits c.pseudo-pseudokey.result = c.from-at.ensures ∙ c.ward_number.ensures in
+    falls_in old c.args.self.now c.self.view_is c.self.invariant c.requires c.args.key c.args.value c.pseudo-pseudokey.result c.from-at.result hashed at_is c.index_mut-ward.result.now c.index_mut-ward.ensures.value c.index_mut-directory.result.now c.index_mut-directory.ensures.value
+    c.put_counted.new.ward c.put_counted.new.directory c.renew_history.new.ward c.renew_history.ensures.begun (at_least c.in_ok-reply.ensures.failures c.renew_history.ensures.failures)
