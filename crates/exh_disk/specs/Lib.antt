@@ -1,2 +1,5 @@
 pub mod DiskFault
+pub mod Found
+pub mod History
+pub mod Seen
 pub mod Stage

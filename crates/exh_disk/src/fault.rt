@@ -73,7 +73,7 @@ impl DiskFault {
     ghost use Rattle.exh_disk.specs.DiskFault.{is_memory, is_out_of_memory};
 
     /// A call of the system failed: want of memory is told apart.
-    pub(crate) fn at(call: Call, error: io::Error) -> DiskFault
+    pub fn at(call: Call, error: io::Error) -> DiskFault
         ensures { is_memory result ≡ is_out_of_memory (error_kind error) }
     {
         if error.kind() == ErrorKind::OutOfMemory {
@@ -84,7 +84,7 @@ impl DiskFault {
     }
 
     /// The same, but for a kind of error by which the system says that another save has the file.
-    pub(crate) fn busy_at(busy: ErrorKind, call: Call, error: io::Error) -> DiskFault {
+    pub fn busy_at(busy: ErrorKind, call: Call, error: io::Error) -> DiskFault {
         if error.kind() == busy {
             DiskFault::Busy
         } else {

@@ -41,13 +41,20 @@ pub struct Runner {
 }
 
 impl Found {
+    ghost use Rattle.std.specs.Prelude.{◌↔◌, IsTrue};
+    ghost use Rattle.exh_disk.specs.Found.{IsSame, IsUnchanged};
+
     /// Whether both tell of one file.
-    pub fn is_same(&self, other: &Found) -> bool {
+    pub fn is_same(&self, other: &Found) -> bool
+        ensures { IsTrue result ↔ IsSame self.now other.now }
+    {
         self.kind == other.kind && self.device == other.device && self.inode == other.inode
     }
 
     /// Whether both tell of one file that nobody wrote to in between.
-    pub fn is_unchanged(&self, other: &Found) -> bool {
+    pub fn is_unchanged(&self, other: &Found) -> bool
+        ensures { IsTrue result ↔ IsUnchanged self.now other.now }
+    {
         self.is_same(other) && self.size == other.size && self.modified == other.modified
     }
 

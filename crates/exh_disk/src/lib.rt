@@ -1,30 +1,21 @@
-//! The calls that a save makes of a disk, in their order: a file is written beside its path and renamed over it. The
-//! order is code over any disk: the system's, or one in memory, which a test sets.
+//! A disk as a save sees it: the calls that a save makes of one, what these tell of files, and why they fail. Disks are
+//! the system's, or one in memory, which a test sets.
 #![tactic(auto)]
 
-pub use disk::{Disk, Source, SourceFault, Watch};
+pub use disk::Disk;
 pub use fault::{Call, DiskFault};
+pub use folder::folder_of;
 pub use found::{Found, Head, Kind, Runner};
-pub use looking::look;
-pub use saving::{Saved, save};
+pub use leading::leads_to;
+pub use locking::hold;
 pub use seen::Seen;
 pub use stage::Stage;
-pub use target::Target;
 
-mod beside;
-mod claiming;
 mod disk;
-mod disk_writer;
-mod dressing;
 mod fault;
-mod fault_keeper;
+mod folder;
 mod found;
-mod held;
-mod looking;
-mod names;
-mod path;
-mod saving;
+mod leading;
+mod locking;
 mod seen;
 mod stage;
-mod target;
-mod writing;

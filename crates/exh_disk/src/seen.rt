@@ -1,6 +1,9 @@
-use crate::fault::Call;
-use crate::held::{hold, leads_to};
-use crate::{Disk, DiskFault, Found, Kind};
+ghost use Rattle.std.specs.Prelude.{◌≡◌, ◌⊎◌, IsTrue, OnOk, string_bytes};
+ghost use Rattle.std.specs.Option.{option_copied};
+ghost use Rattle.exh_disk.specs.Found.{IsSame, IsUnchanged};
+ghost use Rattle.exh_disk.specs.Seen.{MayReplace};
+
+use crate::{Call, Disk, DiskFault, Found, Kind, hold, leads_to};
 use std::alloc::Global;
 use std::io;
 use std::io::ErrorKind;
@@ -31,7 +34,9 @@ impl<O: Drop> Seen<O> {
         disk: &mut D,
         path: &str,
         opened: O,
-    ) -> io::Result<Seen<O>> {
+    ) -> io::Result<Seen<O>>
+        ensures { D.history disk.new ≡ D.history disk.old }
+    {
         let about = match about_of(alloc, disk, path, &opened) {
             Err(error) if error.kind() == ErrorKind::OutOfMemory => return Err(error),
             about => about,
@@ -53,11 +58,9 @@ impl<O: Drop> Seen<O> {
     /// still at its path as it was.
     ///
     /// `Busy`: another run has the lock. `System`: the system doesn't say what is there, or has no locks.
-    pub fn lock<D: Disk<Opened = O>>(
-        &self,
-        alloc: Global,
-        disk: &mut D,
-    ) -> Result<bool, DiskFault> {
+    pub fn lock<D: Disk<Opened = O>>(&self, alloc: Global, disk: &mut D) -> Result<bool, DiskFault>
+        ensures { D.history disk.new ≡ D.history disk.old }
+    {
         let about = match &self.about {
             Ok(about) => about,
             Err(error) => return Err(DiskFault::at(Call::Ask, *error)),
@@ -77,7 +80,7 @@ impl<O: Drop> Seen<O> {
     }
 
     /// Whether what is to be saved to is where the file was opened, or is this file.
-    pub(crate) fn is_at(&self, named: &str, path: &str, there: &Found) -> bool {
+    pub fn is_at(&self, named: &str, path: &str, there: &Found) -> bool {
         let is_named = self.named.as_str() == named;
         match &self.about {
             Ok(about) => { is_named || about.path.as_str() == path || about.found.is_same(there) }
@@ -87,13 +90,16 @@ impl<O: Drop> Seen<O> {
 
     /// Sees that what is at a path may be replaced, as far as this file goes: where it was named so when it was opened, it
     /// must be there as it was; else only where it is there, or was.
-    pub(crate) fn check<D: Disk<Opened = O>>(
+    pub fn check<D: Disk<Opened = O>>(
         &self,
         disk: &mut D,
         named: &str,
         path: &str,
         there: Option<&Found>,
-    ) -> Result<(), DiskFault> {
+    ) -> Result<(), DiskFault>
+        ensures ok { OnOk result (MayReplace self.now named.now path.now (option_copied there.entry)) }
+        ensures crash { D.history disk.new ≡ D.history disk.old }
+    {
         let is_named = self.named.as_str() == named;
         match (&self.about, there) {
             (Ok(about), Some(there)) => about.check(is_named, path, there),
@@ -109,7 +115,10 @@ impl<O: Drop> Seen<O> {
 }
 
 impl About {
-    fn check(&self, is_named: bool, path: &str, there: &Found) -> Result<(), DiskFault> {
+    fn check(&self, is_named: bool, path: &str, there: &Found) -> Result<(), DiskFault>
+        ensures named { OnOk result (IsTrue is_named → (string_bytes self.now.path ≡ path.now) × IsUnchanged self.now.found there.now) }
+        ensures elsewhere { OnOk result ((string_bytes self.now.path ≡ path.now) ⊎ IsSame self.now.found there.now → IsUnchanged self.now.found there.now) }
+    {
         let is_path = self.path.as_str() == path;
         let is_at = is_path || !is_named && self.found.is_same(there);
         let is_asked = is_named || is_at;
@@ -126,7 +135,9 @@ fn about_of<D: Disk>(
     disk: &mut D,
     path: &str,
     opened: &D::Opened,
-) -> io::Result<About> {
+) -> io::Result<About>
+    ensures { D.history disk.new ≡ D.history disk.old }
+{
     let found = disk.ask_opened(opened)?;
     let path = disk.whole_path(alloc, path)?;
     Ok(About { path, found })

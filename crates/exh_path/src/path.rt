@@ -1,13 +1,15 @@
-ghost use Rattle.std.specs.Prelude.{◌≡◌, IfOk, IfSome};
+ghost use Rattle.std.specs.Prelude.{◌≡◌, ◌⊎◌, ℕ, IfOk, IfSome, List};
 ghost use Rattle.exh_disk.specs.declared.stage.Stage.TheVariants.{Settled};
 ghost use Rattle.std.specs.Io.KnownBytes.{Appends};
+ghost use Rattle.exh_saving.specs.Saved.{IsSaved, SavesAt};
 ghost use Rattle.exh_file.specs.Saved.{IsLeft, written_file};
 ghost use Rattle.exh_format.specs.FileVersion.{written_format};
 ghost use Rattle.exh_format.specs.PageFile.{file_bytes};
 
 use crate::wards::{Metered, Wards};
-use exh_disk::{Disk, DiskFault, Saved, Seen, Target, look, save};
+use exh_disk::{Disk, DiskFault, Seen};
 use exh_file::Opened;
+use exh_saving::{Saved, Target, look, save};
 use exh_stores::Pages;
 use exh_stream::{Meter, Terminal};
 use std::alloc::Global;
@@ -24,11 +26,13 @@ pub fn look_at<D: Disk>(
     disk: &mut D,
     path: &str,
     seen: Option<&Seen<D::Opened>>,
-) -> Result<(), DiskFault> {
+) -> Result<(), DiskFault>
+    ensures { D.history disk.new ≡ D.history disk.old }
+{
     look(alloc, disk, &target_at(path, seen))
 }
 
-/// Saves wards as the page file of a path of a disk, as `exh_disk` saves, and gives them back as they were, so that after
+/// Saves wards as the page file of a path of a disk, as `exh_saving` saves, and gives them back as they were, so that after
 /// a fault they can be saved elsewhere. The meter counts what is written, and `seen` is the file that was opened, where
 /// one was.
 ///
@@ -45,6 +49,10 @@ pub fn save_at<D: Disk, P: Pages + Drop, T: Terminal>(
         Appends D.unwritten (D.holds file) (file_bytes written_format (written_file opened)))) }
     ensures settled { IfOk result.0 (λ saved. IfSome saved.file (λ file. D.stage file ≡ Settled)) }
     ensures wards { IsLeft opened result.1 }
+    // At each moment of the call a crash leaves at the path, without links, what it could leave there before, or these wards.
+    ensures crash { (whole : List ℕ) × ((whole ≡ path.now) ⊎ D.leads path.now whole)
+        × SavesAt (D.history disk.old whole) (D.history disk.new whole)
+        (IsSaved D.unwritten (file_bytes written_format (written_file opened))) result.0 }
 {
     let wards = Wards { opened };
     let (saved, wards) = save(
@@ -57,7 +65,9 @@ pub fn save_at<D: Disk, P: Pages + Drop, T: Terminal>(
     (saved, wards.opened)
 }
 
-fn target_at<'t, O: Drop>(path: &'t str, seen: Option<&'t Seen<O>>) -> Target<'t, O> {
+fn target_at<'t, O: Drop>(path: &'t str, seen: Option<&'t Seen<O>>) -> Target<'t, O>
+    ensures { result.path.now ≡ path.now }
+{
     Target {
         path,
         magic: MAGIC,

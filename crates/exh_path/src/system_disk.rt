@@ -1,8 +1,8 @@
-ghost use Rattle.std.specs.Prelude.{◌≡◌, None};
+ghost use Rattle.std.specs.Prelude.{◌≡◌, ⊤, None};
 
 use crate::found::found_of;
 use crate::opening::{open_above, open_with};
-use exh_disk::{Disk, Found, Head, Runner, Seen, Stage};
+use exh_disk::{Disk, Found, Head, Kind, Runner, Seen, Stage, folder_of};
 use std::alloc::Global;
 use std::fs::{File, OpenOptions, Permissions};
 use std::io::{ErrorKind, Read, Write};
@@ -48,6 +48,8 @@ impl<'r> SystemDisk<'r> {
 impl Disk for SystemDisk<'_> {
     type File = SystemFile;
 
+    type Writer = File;
+
     type Opened = File;
 
     type Held = SystemHeld;
@@ -61,6 +63,10 @@ impl Disk for SystemDisk<'_> {
     ghost holds = { λ _. None };
 
     ghost stands = { λ held. held.stands };
+
+    ghost history = { λ _ _. None };
+
+    ghost leads = { λ _ _. ⊤ };
 
     // The folder that the system has of a process is of whom that runs for.
     fn runner(&mut self) -> io::Result<Runner> {
@@ -122,14 +128,14 @@ impl Disk for SystemDisk<'_> {
         fs::remove_file(self.rt, name)
     }
 
-    fn open(&mut self, path: &str) -> io::Result<File> {
+    fn open(&mut self, path: &str) -> io::Result<Option<File>> {
         let mut options = OpenOptions::new();
         options.write(true);
-        open_with(self.rt, &options, path)
-    }
-
-    fn ask_device(&mut self, device: &File) -> io::Result<Found> {
-        Ok(found_of(&device.metadata()?))
+        let file = open_with(self.rt, &options, path)?;
+        match found_of(&file.metadata()?).kind {
+            Kind::Regular => Ok(None),
+            _ => Ok(Some(file)),
+        }
     }
 
     fn synchronize_device(&mut self, device: &mut File) -> io::Result<()> {
@@ -196,9 +202,15 @@ impl Disk for SystemDisk<'_> {
         Ok(())
     }
 
-    fn write(&mut self, file: &mut SystemFile, bytes: &[u8]) -> io::Result<usize> {
-        file.stage = Stage::Written;
-        file.file.write(bytes)
+    fn begin_writing(&mut self, file: SystemFile) -> File {
+        file.file
+    }
+
+    fn end_writing(&mut self, writer: File) -> SystemFile {
+        SystemFile {
+            file: writer,
+            stage: Stage::Written,
+        }
     }
 
     fn synchronize(&mut self, file: &mut SystemFile) -> io::Result<()> {
@@ -247,9 +259,9 @@ impl Disk for SystemDisk<'_> {
         Ok(())
     }
 
-    fn synchronize_folder(&mut self, file: &mut SystemFile, folder: &str) -> io::Result<()> {
+    fn synchronize_folder(&mut self, file: &mut SystemFile, path: &str) -> io::Result<()> {
         file.stage = Stage::Settled;
-        open_above(self.rt, folder)?.sync_all()
+        open_above(self.rt, folder_of(path))?.sync_all()
     }
 
     fn remove(&mut self, _file: &SystemFile, name: &str) -> io::Result<()> {

@@ -2,8 +2,8 @@ ghost use Rattle.exh_file.specs.Saved.{IsLeft, written_file};
 ghost use Rattle.exh_format.specs.FileVersion.{written_format};
 ghost use Rattle.exh_format.specs.PageFile.{file_bytes};
 
-use exh_disk::{Source, SourceFault, Watch};
 use exh_file::{Opened, SaveFault, write_file};
+use exh_saving::{Source, SourceFault, Watch};
 use exh_stores::Pages;
 use exh_stream::{Meter, Terminal};
 use std::io::Write;

@@ -8,3 +8,7 @@ returns-clause-wards g c = elim c.save-saved.ensures.source [
   | inl same ↦ rw same (left_as_it_was c.args.opened)
   | inr left ↦ left
 ]
+
+-- the target is of the path
+pub returns-clause-crash : goal.returns-clause-crash
+returns-clause-crash g c = rw c.target_at.ensures at c.save-saved.ensures.crash

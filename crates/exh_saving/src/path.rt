@@ -1,6 +1,10 @@
-use crate::fault::Call;
+ghost use Rattle.std.specs.Prelude.{◌≡◌, IfOk, IfSome};
+ghost use Rattle.exh_disk.specs.Seen.{MayReplace};
+ghost use Rattle.exh_saving.specs.Saved.{Reaches};
+
+use crate::Target;
 use crate::names::file_name_of;
-use crate::{Disk, DiskFault, Found, Kind, Target};
+use exh_disk::{Call, Disk, DiskFault, Found, Kind};
 use std::alloc::Global;
 use std::io::ErrorKind;
 
@@ -14,11 +18,10 @@ pub(crate) enum PathTo {
 }
 
 /// What a path to be saved to leads to.
-pub(crate) fn path_to<D: Disk>(
-    alloc: Global,
-    disk: &mut D,
-    path: &str,
-) -> Result<PathTo, DiskFault> {
+pub(crate) fn path_to<D: Disk>(alloc: Global, disk: &mut D, path: &str) -> Result<PathTo, DiskFault>
+    ensures reaches { IfOk result (Reaches D.leads path.now) }
+    ensures crash { D.history disk.new ≡ D.history disk.old }
+{
     if file_name_of(path).is_empty() {
         return Err(DiskFault::NoFileName);
     }
@@ -34,7 +37,10 @@ fn path_to_found<D: Disk>(
     disk: &mut D,
     path: &str,
     kind: Kind,
-) -> Result<PathTo, DiskFault> {
+) -> Result<PathTo, DiskFault>
+    ensures reaches { IfOk result (Reaches D.leads path.now) }
+    ensures crash { D.history disk.new ≡ D.history disk.old }
+{
     match kind {
         Kind::Regular => match disk.whole_path(alloc, path) {
             Ok(path) => Ok(PathTo::File(path)),
@@ -46,7 +52,10 @@ fn path_to_found<D: Disk>(
 }
 
 // Of a path that leads to nothing. A link that leads nowhere would be replaced; what else has the name came meanwhile.
-fn new_path<D: Disk>(alloc: Global, disk: &mut D, path: &str) -> Result<PathTo, DiskFault> {
+fn new_path<D: Disk>(alloc: Global, disk: &mut D, path: &str) -> Result<PathTo, DiskFault>
+    ensures reaches { IfOk result (Reaches D.leads path.now) }
+    ensures crash { D.history disk.new ≡ D.history disk.old }
+{
     match disk.ask_name(path) {
         Ok(found) if found.kind == Kind::Link => Err(DiskFault::DanglingLink),
         Ok(_) => Err(DiskFault::Changed),
@@ -62,7 +71,10 @@ pub(crate) fn old_at<D: Disk>(
     disk: &mut D,
     path: &str,
     target: &Target<'_, D::Opened>,
-) -> Result<Option<Found>, DiskFault> {
+) -> Result<Option<Found>, DiskFault>
+    ensures ok { IfOk result (λ there. IfSome target.now.seen (λ seen. MayReplace seen.now target.now.path.now path.now there)) }
+    ensures crash { D.history disk.new ≡ D.history disk.old }
+{
     let there = there_at(disk, path)?;
     if let Some(there) = &there {
         see_replaceable(disk, path, there, target.magic)?;
@@ -74,7 +86,9 @@ pub(crate) fn old_at<D: Disk>(
 }
 
 /// What has the name of a path; `None` where nothing has it.
-pub(crate) fn there_at<D: Disk>(disk: &mut D, path: &str) -> Result<Option<Found>, DiskFault> {
+pub(crate) fn there_at<D: Disk>(disk: &mut D, path: &str) -> Result<Option<Found>, DiskFault>
+    ensures { D.history disk.new ≡ D.history disk.old }
+{
     match disk.ask_name(path) {
         Ok(there) => Ok(Some(there)),
         Err(error) if error.kind() == ErrorKind::NotFound => Ok(None),
@@ -88,7 +102,9 @@ fn see_replaceable<D: Disk>(
     path: &str,
     there: &Found,
     magic: [u8; 8],
-) -> Result<(), DiskFault> {
+) -> Result<(), DiskFault>
+    ensures { D.history disk.new ≡ D.history disk.old }
+{
     if there.kind != Kind::Regular {
         return Err(DiskFault::Changed);
     }

@@ -1,2 +1,4 @@
+-- for a save's answer
+pub mod Moments
 -- for what takes a file's name away
 pub mod Stages

@@ -51,12 +51,3 @@ pub(crate) fn file_name_of(path: &str) -> &str
         None => path,
     }
 }
-
-/// The folder that a path's file is in.
-pub(crate) fn folder_of(path: &str) -> &str {
-    match path.rsplit_once('/') {
-        Some(("", _)) => "/",
-        Some((folder, _)) => folder,
-        None => ".",
-    }
-}

@@ -1,9 +1,9 @@
 ghost use Rattle.std.specs.Prelude.{OnOk};
 ghost use Rattle.std.specs.Io.KnownBytes.{Appends};
 
-use crate::fault::Call;
 use crate::fault_keeper::FaultKeeper;
-use crate::{DiskFault, Source, SourceFault, Watch};
+use crate::{Source, SourceFault, Watch};
+use exh_disk::{Call, DiskFault};
 use std::io::Write;
 
 /// Writes a source to a writer, tells a watch of its bytes, and gives both back. Where the writer failed, the fault is its

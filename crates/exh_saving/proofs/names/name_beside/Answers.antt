@@ -1,6 +1,6 @@
 use Rattle.std.proofs.Common.{rules, ◌≡◌, ◌++◌, ◌+◌, ◌≤◌, ℕ, IfOk, length, string_bytes, take, ◌<◌, ◌-◌, ◌∙◌, ap, arith}
 use Rattle.std.proofs.Math.Seq.{take-length}
-use Rattle.exh_disk.proofs.names.name_beside.Goals as goal
+use Rattle.exh_saving.proofs.names.name_beside.Goals as goal
 
 -- nothing is cut off: the end is the last place where a character ends
 pub returns-clause-whole : goal.returns-clause-whole

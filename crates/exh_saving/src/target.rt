@@ -1,4 +1,4 @@
-use crate::Seen;
+use exh_disk::Seen;
 
 /// Where is to be saved.
 #[derive(Clone, Copy)]

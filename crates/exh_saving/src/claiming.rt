@@ -1,11 +1,11 @@
 //! The file beside a path that a save has for itself.
 ghost use Rattle.std.specs.Prelude.{◌≡◌, ◌≢◌, ◌⊎◌, IfOk, IfSome, OnErr, OnOk, string_bytes, true};
 ghost use Rattle.exh_disk.specs.declared.stage.Stage.TheVariants.{Empty, Made, OwnLeft};
+ghost use Rattle.exh_disk.specs.History.{SameBut};
 ghost use Rattle.exh_disk.specs.Stage.{asked, is_ours, locked};
 
-use crate::fault::Call;
 use crate::names::{SUFFIXES, name_beside, names_beside};
-use crate::{Disk, DiskFault, Found, Kind, Runner};
+use exh_disk::{Call, Disk, DiskFault, Found, Kind, Runner};
 use std::alloc::Global;
 use std::io::ErrorKind;
 
@@ -26,6 +26,7 @@ pub(crate) fn claim<D: Disk>(
     ensures stage { IfOk result (λ claimed. D.stage claimed.0 ≡ Empty) }
     ensures bytes { IfOk result (λ claimed. D.holds claimed.0 ≡ D.unwritten) }
     ensures beside { IfOk result (λ claimed. string_bytes claimed.1 ≢ path.now) }
+    ensures crash { D.history disk.new path.now ≡ D.history disk.old path.now }
 {
     for suffix in SUFFIXES {
         let Ok(name) = name_beside(alloc, path, suffix) else {
@@ -53,6 +54,7 @@ fn claim_name<D: Disk>(
     ensures stage { IfOk result (λ claimed. IfSome claimed (λ file. D.stage file ≡ Empty)) }
     ensures bytes { IfOk result (λ claimed. IfSome claimed (λ file. D.holds file ≡ D.unwritten)) }
     ensures beside { IfOk result (λ claimed. IfSome claimed (λ _. name.now ≢ path.now)) }
+    ensures crash { D.history disk.new path.now ≡ D.history disk.old path.now }
 {
     if name == path {
         return Ok(None);
@@ -82,6 +84,7 @@ fn is_left_over(found: &Found, runner: Option<Runner>, old: Option<&Found>) -> b
 fn make<D: Disk>(disk: &mut D, name: &str, old: Option<&Found>) -> Result<D::File, DiskFault>
     ensures stage { IfOk result (λ file. D.stage file ≡ Empty) }
     ensures bytes { IfOk result (λ file. D.holds file ≡ D.unwritten) }
+    ensures crash { SameBut name.now (D.history disk.old) (D.history disk.new) }
 {
     let mode = if old.is_some() { PRIVATE } else { USUAL };
     let mut file = match disk.make(name, mode) {
@@ -105,6 +108,7 @@ fn hold<D: Disk>(disk: &mut D, file: &mut D::File, name: &str) -> Result<(), Dis
     ensures ok { OnOk result (D.stage file.new ≡ Empty) }
     ensures bytes { OnOk result (D.holds file.new ≡ D.unwritten) }
     ensures err { OnErr result (is_ours (D.stage file.new) ≡ true) }
+    ensures crash { D.history disk.new ≡ D.history disk.old }
 {
     own(disk, file, name)?;
     match disk.empty(file) {
@@ -125,6 +129,7 @@ fn take_over<D: Disk>(
     requires { name.now ≢ path.now }
     ensures stage { IfOk result (λ taken. IfSome taken (λ file. D.stage file ≡ Empty)) }
     ensures bytes { IfOk result (λ taken. IfSome taken (λ file. D.holds file ≡ D.unwritten)) }
+    ensures crash { SameBut name.now (D.history disk.old) (D.history disk.new) }
 {
     let mut file = match disk.take(name, path) {
         Ok(file) => file,
@@ -149,7 +154,9 @@ fn take_over<D: Disk>(
 }
 
 // Whether a file is empty or begins as a page file, as far as it goes.
-fn is_of_a_save<D: Disk>(disk: &mut D, name: &str, magic: [u8; 8]) -> Result<bool, DiskFault> {
+fn is_of_a_save<D: Disk>(disk: &mut D, name: &str, magic: [u8; 8]) -> Result<bool, DiskFault>
+    ensures { D.history disk.new ≡ D.history disk.old }
+{
     match disk.head(name) {
         Ok(head) => {
             let mut pairs = head.bytes.iter().zip(magic.iter()).enumerate();
@@ -165,6 +172,7 @@ fn remake<D: Disk>(disk: &mut D, left: &D::File, name: &str) -> Result<D::File, 
     requires { D.stage left.now ≡ OwnLeft }
     ensures stage { IfOk result (λ file. D.stage file ≡ Empty) }
     ensures bytes { IfOk result (λ file. D.holds file ≡ D.unwritten) }
+    ensures crash { SameBut name.now (D.history disk.old) (D.history disk.new) }
 {
     match disk.remove(left, name) {
         Ok(()) => make(disk, name, None),
@@ -177,6 +185,7 @@ fn clear<D: Disk>(disk: &mut D, left: &mut D::File, name: &str) -> Result<(), Di
     requires { D.stage left.old ≡ OwnLeft }
     ensures stage { OnOk result (D.stage left.new ≡ Empty) }
     ensures bytes { OnOk result (D.holds left.new ≡ D.unwritten) }
+    ensures crash { SameBut name.now (D.history disk.old) (D.history disk.new) }
 {
     let cleared = match disk.restrict(left) {
         Ok(()) => disk.empty(left),
@@ -195,6 +204,7 @@ fn clear<D: Disk>(disk: &mut D, left: &mut D::File, name: &str) -> Result<(), Di
 fn own<D: Disk>(disk: &mut D, file: &mut D::File, name: &str) -> Result<(), DiskFault>
     ensures ok { OnOk result (D.stage file.new ≡ asked (locked (D.stage file.old)) true) }
     ensures err { OnErr result ((D.stage file.new ≡ D.stage file.old) ⊎ (D.stage file.new ≡ locked (D.stage file.old))) }
+    ensures crash { D.history disk.new ≡ D.history disk.old }
 {
     match disk.lock(file) {
         Ok(()) => see_own(disk, file, name),
@@ -211,6 +221,7 @@ pub(crate) fn see_own<D: Disk>(
     ensures ok { OnOk result (D.stage file.new ≡ asked (D.stage file.old) true) }
     ensures err { OnErr result (D.stage file.new ≡ D.stage file.old) }
     ensures bytes { D.holds file.new ≡ D.holds file.old }
+    ensures crash { D.history disk.new ≡ D.history disk.old }
 {
     match disk.confirm(file, name) {
         Ok(true) => Ok(()),

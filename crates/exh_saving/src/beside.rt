@@ -2,17 +2,17 @@
 ghost use Rattle.std.specs.Prelude.{◌≡◌, ◌≢◌, ◌⊎◌, IfOk, IsOk, OnErr, OnOk, string_bytes, true};
 ghost use Rattle.std.specs.Io.KnownBytes.{Appends};
 ghost use Rattle.exh_disk.specs.declared.stage.Stage.TheVariants.{Confirmed, Empty, Placed, Settled, Unlinkable};
+ghost use Rattle.exh_disk.specs.History.{placed};
 ghost use Rattle.exh_disk.specs.Stage.{is_fillable, is_ours};
+ghost use Rattle.exh_saving.specs.Saved.{saved_history};
 
 use crate::claiming::{claim, see_own};
-use crate::disk_writer::DiskWriter;
 use crate::dressing::dress;
-use crate::fault::Call;
-use crate::held::{Old, clear_names, hold_old, see_held};
-use crate::names::folder_of;
+use crate::old::{Old, clear_names, hold_old, see_held};
 use crate::path::{old_at, there_at};
 use crate::writing::write_source;
-use crate::{Disk, DiskFault, Found, Source, Target, Watch};
+use crate::{Source, Target, Watch};
+use exh_disk::{Call, Disk, DiskFault, Found};
 use std::alloc::Global;
 use std::io;
 use std::io::ErrorKind;
@@ -31,6 +31,8 @@ pub(crate) fn save_beside<D: Disk, S: Source, V: Watch>(
 ) -> (Result<(D::File, Option<io::Error>), DiskFault>, S)
     ensures settled { IfOk result.0 (λ saved. D.stage saved.0 ≡ Settled) }
     ensures bytes { IfOk result.0 (λ saved. Appends D.unwritten (D.holds saved.0) (S.bytes source)) }
+    ensures placed { IfOk result.0 (λ saved. D.history disk.new path.now ≡ saved_history (D.history disk.old path.now) (D.holds saved.0) saved.1) }
+    ensures crash { OnErr result.0 (D.history disk.new path.now ≡ D.history disk.old path.now) }
     ensures source { (result.1 ≡ source) ⊎ S.leaves source result.1 }
 {
     let mut old = match hold_old(disk, path, target) {
@@ -71,11 +73,15 @@ fn finish<D: Disk>(
     ensures settled { IfOk result (λ saved. D.stage saved.0 ≡ Settled) }
     ensures filled { OnOk result (IsOk filled) }
     ensures bytes { IfOk result (λ saved. D.holds saved.0 ≡ D.holds file) }
+    ensures placed { IfOk result (λ saved. D.history disk.new path.now ≡ saved_history (D.history disk.old path.now) (D.holds saved.0) saved.1) }
+    ensures crash { OnErr result (D.history disk.new path.now ≡ D.history disk.old path.now) }
 {
     match put(alloc, disk, &mut file, name, path, named, old, filled) {
         Ok(()) => {
-            let folder = disk.synchronize_folder(&mut file, folder_of(path));
-            Ok((file, folder.err()))
+            match disk.synchronize_folder(&mut file, path) {
+                Ok(()) => Ok((file, None)),
+                Err(error) => Ok((file, Some(error))),
+            }
         }
         // Another save has the name.
         Err(DiskFault::Busy) => Err(DiskFault::Busy),
@@ -105,6 +111,7 @@ fn claim_beside<D: Disk>(
     ensures stage { IfOk result (λ claimed. D.stage claimed.0 ≡ Empty) }
     ensures bytes { IfOk result (λ claimed. D.holds claimed.0 ≡ D.unwritten) }
     ensures beside { IfOk result (λ claimed. string_bytes claimed.1 ≢ path.now) }
+    ensures crash { D.history disk.new path.now ≡ D.history disk.old path.now }
 {
     if let Some(old) = old {
         clear_names(alloc, disk, path, old)?;
@@ -127,12 +134,13 @@ fn fill<D: Disk, S: Source, V: Watch>(
     ensures stage { is_fillable (D.stage result.0) ≡ true }
     ensures source { (result.2 ≡ source) ⊎ S.leaves source result.2 }
     ensures bytes { OnOk result.1 (Appends D.unwritten (D.holds result.0) (S.bytes source)) }
+    ensures crash { D.history disk.new ≡ D.history disk.old }
 {
     match prepare(disk, &mut file, path, target, old) {
         Ok(()) => {
-            let writer = DiskWriter::new(disk, file);
+            let writer = disk.begin_writing(file);
             let (written, source, writer) = write_source(writer, source, watch);
-            (writer.into_file(), written, source)
+            (disk.end_writing(writer), written, source)
         }
         Err(fault) => (file, Err(fault), source),
     }
@@ -149,6 +157,7 @@ fn prepare<D: Disk>(
     requires { D.stage file.old ≡ Empty }
     ensures stage { is_fillable (D.stage file.new) ≡ true }
     ensures bytes { D.holds file.new ≡ D.holds file.old }
+    ensures crash { D.history disk.new ≡ D.history disk.old }
 {
     let there = old_at(disk, path, target)?;
     if !is_unchanged(&old, &there) {
@@ -181,6 +190,8 @@ fn put<D: Disk>(
     ensures ok { OnOk result (D.stage file.new ≡ Placed) }
     ensures err { OnErr result (is_ours (D.stage file.new) ≡ true) }
     ensures bytes { D.holds file.new ≡ D.holds file.old }
+    ensures placed { OnOk result (D.history disk.new path.now ≡ placed (D.history disk.old path.now) (D.holds file.old)) }
+    ensures crash { OnErr result (D.history disk.new path.now ≡ D.history disk.old path.now) }
 {
     filled?;
     if let Err(error) = disk.synchronize(file) {
@@ -210,6 +221,8 @@ fn put_over<D: Disk>(
     ensures ok { OnOk result (D.stage file.new ≡ Placed) }
     ensures err { OnErr result (is_ours (D.stage file.new) ≡ true) }
     ensures bytes { D.holds file.new ≡ D.holds file.old }
+    ensures placed { OnOk result (D.history disk.new path.now ≡ placed (D.history disk.old path.now) (D.holds file.old)) }
+    ensures crash { OnErr result (D.history disk.new path.now ≡ D.history disk.old path.now) }
 {
     match disk.rename(file, name, path, &old.held) {
         Ok(()) => Ok(()),
@@ -229,6 +242,8 @@ fn put_new<D: Disk>(
     ensures ok { OnOk result (D.stage file.new ≡ Placed) }
     ensures err { OnErr result (is_ours (D.stage file.new) ≡ true) }
     ensures bytes { D.holds file.new ≡ D.holds file.old }
+    ensures placed { OnOk result (D.history disk.new path.now ≡ placed (D.history disk.old path.now) (D.holds file.old)) }
+    ensures crash { OnErr result (D.history disk.new path.now ≡ D.history disk.old path.now) }
 {
     match disk.link(file, name, path) {
         Ok(true) => {
@@ -254,6 +269,8 @@ fn rename_new<D: Disk>(
     ensures ok { OnOk result (D.stage file.new ≡ Placed) }
     ensures err { OnErr result (is_ours (D.stage file.new) ≡ true) }
     ensures bytes { D.holds file.new ≡ D.holds file.old }
+    ensures placed { OnOk result (D.history disk.new path.now ≡ placed (D.history disk.old path.now) (D.holds file.old)) }
+    ensures crash { OnErr result (D.history disk.new path.now ≡ D.history disk.old path.now) }
 {
     if there_at(disk, path)?.is_some() {
         return Err(DiskFault::Changed);

@@ -1,10 +1,12 @@
 //! The file that a save replaces, under its lock.
-ghost use Rattle.std.specs.Prelude.{◌≡◌, ◌≢◌, IfOk, OnOk, false, string_bytes, true};
+ghost use Rattle.std.specs.Prelude.{◌≡◌, ◌≢◌, IfOk, IfSome, OnOk, true};
+ghost use Rattle.std.specs.Option.{option_map};
+ghost use Rattle.exh_disk.specs.Seen.{MayReplace};
 
-use crate::fault::Call;
+use crate::Target;
 use crate::names::{SUFFIXES, name_beside};
 use crate::path::old_at;
-use crate::{Disk, DiskFault, Found, Target};
+use exh_disk::{Call, Disk, DiskFault, Found, hold, leads_to};
 use std::alloc::Global;
 use std::io::ErrorKind;
 
@@ -21,7 +23,10 @@ pub(crate) fn hold_old<D: Disk>(
     disk: &mut D,
     path: &str,
     target: &Target<'_, D::Opened>,
-) -> Result<Option<Old<D::Held>>, DiskFault> {
+) -> Result<Option<Old<D::Held>>, DiskFault>
+    ensures ok { IfOk result (λ old. IfSome target.now.seen (λ seen. MayReplace seen.now target.now.path.now path.now (option_map (λ held. held.found) old))) }
+    ensures crash { D.history disk.new ≡ D.history disk.old }
+{
     let Some(found) = old_at(disk, path, target)? else {
         return Ok(None);
     };
@@ -33,18 +38,12 @@ pub(crate) fn hold_old<D: Disk>(
 }
 
 // Opens and locks a file that the run hasn't opened.
-fn hold_path<D: Disk>(disk: &mut D, path: &str) -> Result<D::Held, DiskFault> {
+fn hold_path<D: Disk>(disk: &mut D, path: &str) -> Result<D::Held, DiskFault>
+    ensures { D.history disk.new ≡ D.history disk.old }
+{
     match disk.open_old(path) {
         Ok(opened) => hold(disk, &opened),
         Err(error) => Err(DiskFault::at(Call::Open, error)),
-    }
-}
-
-/// Takes the lock of an opened file.
-pub(crate) fn hold<D: Disk>(disk: &mut D, opened: &D::Opened) -> Result<D::Held, DiskFault> {
-    match disk.hold(opened) {
-        Ok(held) => Ok(held),
-        Err(error) => Err(DiskFault::busy_at(ErrorKind::WouldBlock, Call::Hold, error)),
     }
 }
 
@@ -56,7 +55,8 @@ pub(crate) fn see_held<D: Disk>(
     named: &str,
     old: &mut Old<D::Held>,
 ) -> Result<(), DiskFault>
-    ensures { OnOk result (D.stands old.new.held ≡ true) }
+    ensures stands { OnOk result (D.stands old.new.held ≡ true) }
+    ensures crash { D.history disk.new ≡ D.history disk.old }
 {
     if !leads_to(alloc, disk, named, path)? {
         return Err(DiskFault::Changed);
@@ -69,20 +69,6 @@ pub(crate) fn see_held<D: Disk>(
     }
 }
 
-/// Whether a path leads to another one, which has no links.
-pub(crate) fn leads_to<D: Disk>(
-    alloc: Global,
-    disk: &mut D,
-    named: &str,
-    path: &str,
-) -> Result<bool, DiskFault> {
-    match disk.whole_path(alloc, named) {
-        Ok(whole) => Ok(whole.as_str() == path),
-        Err(error) if error.kind() == ErrorKind::NotFound => Ok(false),
-        Err(error) => Err(DiskFault::at(Call::Ask, error)),
-    }
-}
-
 /// Takes away the names beside a path that are others of the file that is there: a save that was killed once the file had
 /// its path left one.
 pub(crate) fn clear_names<D: Disk>(
@@ -90,7 +76,9 @@ pub(crate) fn clear_names<D: Disk>(
     disk: &mut D,
     path: &str,
     old: &Old<D::Held>,
-) -> Result<(), DiskFault> {
+) -> Result<(), DiskFault>
+    ensures { D.history disk.new path.now ≡ D.history disk.old path.now }
+{
     if old.found.links == 1 {
         return Ok(());
     }
@@ -104,7 +92,9 @@ pub(crate) fn clear_names<D: Disk>(
 }
 
 // Where a name isn't taken away another one is used.
-fn clear_name<D: Disk>(disk: &mut D, name: &str, path: &str, old: &Old<D::Held>) {
+fn clear_name<D: Disk>(disk: &mut D, name: &str, path: &str, old: &Old<D::Held>)
+    ensures { D.history disk.new path.now ≡ D.history disk.old path.now }
+{
     if name == path {
         return;
     }

@@ -1,7 +1,8 @@
-use crate::fault::Call;
-use crate::names::folder_of;
+ghost use Rattle.std.specs.Prelude.{◌≡◌};
+
+use crate::Target;
 use crate::path::{PathTo, old_at, path_to};
-use crate::{Disk, DiskFault, Kind, Target};
+use exh_disk::{Call, Disk, DiskFault, Kind, folder_of};
 use std::alloc::Global;
 
 /// Whether a path can be saved to, as far as asking tells. Nothing is changed.
@@ -11,7 +12,9 @@ pub fn look<D: Disk>(
     alloc: Global,
     disk: &mut D,
     target: &Target<'_, D::Opened>,
-) -> Result<(), DiskFault> {
+) -> Result<(), DiskFault>
+    ensures { D.history disk.new ≡ D.history disk.old }
+{
     match path_to(alloc, disk, target.path)? {
         PathTo::Device => Ok(()),
         PathTo::File(path) => {
@@ -21,7 +24,9 @@ pub fn look<D: Disk>(
     }
 }
 
-fn look_at_folder<D: Disk>(disk: &mut D, folder: &str) -> Result<(), DiskFault> {
+fn look_at_folder<D: Disk>(disk: &mut D, folder: &str) -> Result<(), DiskFault>
+    ensures { D.history disk.new ≡ D.history disk.old }
+{
     let found = match disk.ask(folder) {
         Ok(found) => found,
         Err(error) => return Err(DiskFault::at(Call::Make, error)),

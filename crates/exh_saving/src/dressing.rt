@@ -1,7 +1,7 @@
 ghost use Rattle.std.specs.Prelude.{◌≡◌, OnErr, OnOk};
 ghost use Rattle.exh_disk.specs.declared.stage.Stage.TheVariants.{Dressed, Empty};
 
-use crate::{Disk, Found};
+use exh_disk::{Disk, Found};
 use std::io;
 
 // What of permissions is for the group, and what only serves under an owner and a group that were asked for.
@@ -16,6 +16,7 @@ pub(crate) fn dress<D: Disk>(disk: &mut D, file: &mut D::File, old: &Found) -> i
     ensures ok { OnOk result (D.stage file.new ≡ Dressed) }
     ensures err { OnErr result (D.stage file.new ≡ Empty) }
     ensures bytes { D.holds file.new ≡ D.holds file.old }
+    ensures crash { D.history disk.new ≡ D.history disk.old }
 {
     let has_owner = disk.give(file, Some(old.owner), None).is_ok();
     let has_group = disk.give(file, None, Some(old.group)).is_ok();

@@ -1,0 +1,23 @@
+ghost use Rattle.std.specs.Prelude.{◌≡◌};
+
+use crate::{Call, Disk, DiskFault};
+use std::alloc::Global;
+use std::io::ErrorKind;
+
+/// Whether a path leads to another one, which has no links.
+///
+/// `System`: the system doesn't say where it leads.
+pub fn leads_to<D: Disk>(
+    alloc: Global,
+    disk: &mut D,
+    named: &str,
+    path: &str,
+) -> Result<bool, DiskFault>
+    ensures { D.history disk.new ≡ D.history disk.old }
+{
+    match disk.whole_path(alloc, named) {
+        Ok(whole) => Ok(whole.as_str() == path),
+        Err(error) if error.kind() == ErrorKind::NotFound => Ok(false),
+        Err(error) => Err(DiskFault::at(Call::Ask, error)),
+    }
+}
