@@ -1,9 +1,10 @@
 //! A store of pages of which one call fails: the call of each kind is refused where its turn has come, and else done.
 
 ghost use Rattle.std.specs.Prelude.{◌≡◌, ◌<◌, [], length, IfSome};
-ghost use Rattle.exh_page.specs.Page.{records_of, IsLive};
+ghost use Rattle.exh_page.specs.Page.{records_of, IsDivisible, IsLive};
 ghost use Rattle.exh_page.specs.Place.{place_of};
-ghost use Rattle.exh_page.specs.Search.{IsSought};
+ghost use Rattle.exh_page.specs.Records.{IsRising};
+ghost use Rattle.exh_page.specs.Search.{IsStood};
 ghost use Rattle.exh_stores.specs.PageStore.{IfPage};
 
 use exh_codec::BLOCK_LEN;
@@ -35,7 +36,10 @@ fn live(alloc: Global, len: u8, bits: u64, right: Option<PageNo>) -> Option<Page
 // Pages of the prefixes 0 and 1, the first with a record of the key `k`.
 fn two_pages(alloc: Global) -> Option<PlainPages>
     ensures two { IfSome result (λ store. length store ≡ 2) }
-    ensures live { IfSome result (λ store. IfPage store 0 IsLive) }
+    ensures first_live { IfSome result (λ store. IfPage store 0 IsLive) }
+    ensures divisible { IfSome result (λ store. IfPage store 0 IsDivisible) }
+    ensures rising { IfSome result (λ store. IfPage store 0 (λ page. IsRising (records_of page))) }
+    ensures live { IfSome result (λ store. IfPage store 1 IsLive) }
     ensures bare { IfSome result (λ store. IfPage store 1 (λ page. records_of page ≡ [])) }
 {
     let mut records = Records::new(alloc);
@@ -55,17 +59,14 @@ fn forward(low: u64) -> Page {
     Page::Forward { low, target: 1 }
 }
 
-// Where a record stands in the first page, or would.
-fn spot_of(store: &mut PlainPages, item: &Record) -> Option<Result<Spot, Spot>>
+// Where a record stands in the first page, if it does.
+fn spot_of(store: &mut PlainPages, item: &Record) -> Option<Option<Spot>>
     requires { 0 < length store.old }
-    ensures spot { IfSome result (λ spot. IfPage store.old 0 (λ page. IsSought (place_of item.now) (records_of page) spot)) }
+    ensures spot { IfSome result (λ spot. IfPage store.old 0 (λ page. IsStood (place_of item.now) (records_of page) spot)) }
     ensures pages { store.new ≡ store.old }
 {
     store.fetch(0).ok()?;
-    match store.fetched(0) {
-        Page::Live { records, .. } => Some(records.seek(item.pseudokey, &item.key).0),
-        Page::Forward { .. } => None,
-    }
+    Some(store.fetched(0).look_up(item.pseudokey, &item.key).spot)
 }
 
 // The answer to one call of a kind.
@@ -73,25 +74,32 @@ fn answer(
     store: &mut FailingPages<PlainPages>,
     call: PagesCall,
     item: &Record,
-    spot: Result<Spot, Spot>,
+    spot: Option<Spot>,
 ) -> Option<PagesFault>
     requires two { length (store.old).inner ≡ 2 }
-    requires live { IfPage (store.old).inner 0 IsLive }
+    requires first_live { IfPage (store.old).inner 0 IsLive }
+    requires divisible { IfPage (store.old).inner 0 IsDivisible }
+    requires rising { IfPage (store.old).inner 0 (λ page. IsRising (records_of page)) }
+    requires live { IfPage (store.old).inner 1 IsLive }
     requires bare { IfPage (store.old).inner 1 (λ page. records_of page ≡ []) }
-    requires sought { IfPage (store.old).inner 0 (λ page. IsSought (place_of item.now) (records_of page) spot) }
+    requires stood { IfPage (store.old).inner 0 (λ page. IsStood (place_of item.now) (records_of page) spot) }
 {
     match call {
         PagesCall::Get => store.get(0).err(),
         PagesCall::Head => store.head(0).err(),
         PagesCall::Block => store.block(1, &mut [0; BLOCK_LEN]).err(),
         PagesCall::Fetch => store.fetch(0).err(),
+        PagesCall::Reach => store.reach(0).err(),
         PagesCall::Put => store
             .put_at(0, spot, item.pseudokey, &item.key, &item.value)
             .err(),
-        PagesCall::Remove => store.remove_at(0, spot.ok()?).err(),
+        PagesCall::Remove => store.remove_at(0, spot?).err(),
         PagesCall::Set => store.set(0, forward(0)).err(),
         PagesCall::SetTwo => store.set_two(0, forward(0), 1, forward(1)).err(),
         PagesCall::GrowAndSet => store.grow_and_set(forward(2), 0, forward(0)).err(),
+        PagesCall::SplitInto => store.split_into(0, 1).err(),
+        PagesCall::SplitOff => store.split_off(0).err(),
+        PagesCall::Merge => store.merge(Prefix::new(0, 0)?, 1, 0).err(),
     }
 }
 
@@ -107,16 +115,20 @@ fn answers(alloc: Global, call: PagesCall, at: u64) -> Option<Answers> {
     Some((answer, store.failed(), store.failures()))
 }
 
-const CALLS: [PagesCall; 9] = [
+const CALLS: [PagesCall; 13] = [
     PagesCall::Get,
     PagesCall::Head,
     PagesCall::Block,
     PagesCall::Fetch,
+    PagesCall::Reach,
     PagesCall::Put,
     PagesCall::Remove,
     PagesCall::Set,
     PagesCall::SetTwo,
     PagesCall::GrowAndSet,
+    PagesCall::SplitInto,
+    PagesCall::SplitOff,
+    PagesCall::Merge,
 ];
 
 fn wrong_call(alloc: Global) -> Option<PagesCall> {

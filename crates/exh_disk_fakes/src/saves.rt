@@ -1,8 +1,9 @@
 //! Saves over a file system in memory: what they leave where a call fails or a saver is killed, where another saver comes
 //! in between, and what they do with what has the name beside the path.
 
-use crate::memory_disk::{MemoryDisk, MemoryOpened, NAMES, OLD, OLD_MODE, SAVED, USER};
-use crate::side::{Ending, Nobody, OtherSaver, Saver, Side, save_as};
+use crate::memory_disk::{OLD, SAVED, USER};
+use crate::past::PATH;
+use crate::{Ending, MemoryDisk, MemoryOpened, Nobody, OtherSaver, Saver, Side, save_as};
 use exh_disk::{Kind, Seen};
 use std::alloc::{AllocError, Global};
 use std::io;
@@ -26,7 +27,7 @@ fn disk_of(
     alloc: Global,
     (has_old, has_left, has_links): (bool, bool, bool),
 ) -> Result<MemoryDisk, AllocError> {
-    let mut disk = MemoryDisk::new(alloc);
+    let mut disk = MemoryDisk::new(alloc)?;
     disk.has_links = has_links;
     if has_old {
         disk.add_old()?;
@@ -137,7 +138,7 @@ fn seen_in(disk: &mut MemoryDisk) -> Option<Seen<MemoryOpened>> {
     let opened = disk.opened(0).ok()?;
     let alloc = disk.alloc;
     let mut side = Side::new(disk, Saver::new(0), Nobody);
-    Seen::new(alloc, &mut side, NAMES[0], opened).ok()
+    Seen::new(alloc, &mut side, PATH, opened).ok()
 }
 
 fn wrong_between(alloc: Global) -> Result<Option<(usize, usize)>, AllocError> {
@@ -161,11 +162,10 @@ fn loses_nothing_where_another_save_comes_in_between(rt: HostRuntime) -> Result<
 
 // A disk whose clock stands, with an old file as long as those that are saved.
 fn standing_disk(alloc: Global) -> Result<MemoryDisk, AllocError> {
-    let mut disk = MemoryDisk::new(alloc);
+    let mut disk = MemoryDisk::new(alloc)?;
     disk.is_timed = false;
-    disk.add(0, OLD, OLD_MODE)?;
+    disk.add_first(OLD, OLD.len() as u64)?;
     disk.has_old = true;
-    disk.kept = disk.names[0];
     Ok(disk)
 }
 
@@ -181,7 +181,7 @@ fn save_twice(disk: &mut MemoryDisk) -> bool {
 }
 
 fn inode_at_path(disk: &MemoryDisk) -> io::Result<u64> {
-    let number = disk.number(NAMES[0])?;
+    let number = disk.number(PATH)?;
     Ok(disk.node(number)?.about.inode)
 }
 
@@ -235,8 +235,8 @@ fn replaces_and_takes_over_only_its_own(rt: HostRuntime) -> Result<(), Fail> {
         strange_left_over(&mut disk, number);
         assert_eq!(rt; takes_another_name(&mut disk), true, "at {number}");
     }
-    let mut disk = MemoryDisk::new(rt.alloc());
-    disk.add(0, b"abc", OLD_MODE)?;
+    let mut disk = MemoryDisk::new(rt.alloc())?;
+    disk.add_first(b"abc", 3)?;
     assert_eq!(rt; keeps_text(&mut disk), true);
     Ok(())
 }

@@ -1,79 +1,39 @@
 //! A file system in memory, of one path and the names beside it.
+ghost use Rattle.std.specs.Prelude.{◌≡◌, IsErr};
 
-use exh_disk::{Found, Kind, Stage};
+use crate::node::{Node, node_at, node_at_mut};
+use crate::past::{PATH, Past};
+use crate::{MemoryHeld, MemoryOpened};
+use exh_disk::{Found, Kind};
 use std::alloc::{AllocError, Global};
 use std::io;
 use std::io::ErrorKind;
 use std::rc::Rc;
 
-/// The path, and the names that a save may use beside it.
-pub const NAMES: [&str; 5] = [
-    "pairs.exh",
+// The path, and the names that a save may use beside it.
+const NAMES: [&str; 5] = [
+    PATH,
     "pairs.exh.exhash-saving",
     "pairs.exh.exhash-saving-2",
     "pairs.exh.exhash-saving-3",
     "pairs.exh.exhash-saving-4",
 ];
 
-pub const MAGIC: [u8; 8] = *b"EXHASHPF";
+pub(crate) const MAGIC: [u8; 8] = *b"EXHASHPF";
 
-// Of the old file a beginning stands for all of it: it is as long as a page file of one page.
+/// Of the old file a beginning stands for all of it: it is as long as a page file of one page.
 pub const OLD: &[u8] = b"EXHASHPFoooooooo";
 
-pub const OLD_SIZE: u64 = 8192;
+const OLD_SIZE: u64 = 8192;
 
 /// What each of two savers saves.
 pub const SAVED: [&[u8]; 2] = [b"EXHASHPFaaaaaaaa", b"EXHASHPFbbbbbbbb"];
-/// For whom the savers run; and of whom the old file is, with its permissions.
-pub const USER: u32 = 7;
 
+/// For whom the savers run, and of whom the old file is.
+pub(crate) const USER: u32 = 7;
+
+/// The permissions of the old file.
 pub const OLD_MODE: u32 = 0o640;
-
-/// A file.
-#[derive(Drop)]
-pub struct Node {
-    pub about: Found,
-    pub bytes: Vec<u8>,
-    /// Whether all of it is on the disk.
-    pub is_kept: bool,
-    /// By how many more than one it is open.
-    pub handles: Rc<usize>,
-    /// Which opening of it has the lock, as long as there is another handle of that.
-    pub holder: Option<Rc<usize>>,
-}
-
-/// A file that is open, and the number of this opening of it.
-#[derive(Drop)]
-pub struct MemoryOpened {
-    pub node: usize,
-    pub handle: Rc<usize>,
-    pub opening: Rc<usize>,
-}
-
-/// An open file that is on its way to the path.
-#[derive(Drop)]
-pub struct MemoryFile {
-    pub opened: MemoryOpened,
-    pub stage: Stage,
-}
-
-/// The lock of an open file, and whether that was at its path at the last look.
-#[derive(Drop)]
-pub struct MemoryHeld {
-    pub opened: MemoryOpened,
-    pub stands: bool,
-}
-
-impl MemoryOpened {
-    /// One more handle of the same opening.
-    pub fn again(&self) -> Result<MemoryOpened, AllocError> {
-        Ok(MemoryOpened {
-            node: self.node,
-            handle: self.handle.clone()?,
-            opening: self.opening.clone()?,
-        })
-    }
-}
 
 /// A file system of few names.
 #[derive(Drop)]
@@ -84,6 +44,8 @@ pub struct MemoryDisk {
     pub names: [Option<usize>; 5],
     /// Which file has the path on the disk.
     pub kept: Option<usize>,
+    /// What has stood at the path.
+    pub past: Past,
     /// Whether a file was at the path from the beginning.
     pub has_old: bool,
     /// Whether a file may have two names.
@@ -97,28 +59,33 @@ pub struct MemoryDisk {
 }
 
 /// A call that fails in this way.
-pub fn fault<T>(kind: ErrorKind) -> io::Result<T> {
+pub(crate) fn fault<T>(kind: ErrorKind) -> io::Result<T>
+    ensures { IsErr result }
+{
     Err(io::Error::from(kind))
 }
 
 impl MemoryDisk {
-    pub fn new(alloc: Global) -> MemoryDisk {
-        MemoryDisk {
+    pub fn new(alloc: Global) -> Result<MemoryDisk, AllocError> {
+        Ok(MemoryDisk {
             alloc,
             nodes: Vec::new(alloc),
             names: [None; 5],
             kept: None,
+            past: Past::new(alloc)?,
             has_old: false,
             has_links: true,
             is_timed: true,
             openings: 0,
             time: 0,
             is_wrong: false,
-        }
+        })
     }
 
     /// Adds a file of a name, which is on the disk.
-    pub fn add(&mut self, slot: usize, bytes: &[u8], mode: u32) -> Result<(), AllocError> {
+    pub fn add(&mut self, slot: usize, bytes: &[u8], mode: u32) -> Result<(), AllocError>
+        ensures { self.new.past ≡ self.old.past }
+    {
         self.pass();
         let node = Node {
             about: Found {
@@ -144,7 +111,9 @@ impl MemoryDisk {
     }
 
     /// Time goes on, where the clock does.
-    pub fn pass(&mut self) {
+    pub fn pass(&mut self)
+        ensures { self.new.past ≡ self.old.past }
+    {
         if self.is_timed {
             self.time = self.time.wrapping_add(1);
         }
@@ -171,20 +140,24 @@ impl MemoryDisk {
     }
 
     /// Opens a file by its number.
-    pub fn opened(&mut self, number: usize) -> io::Result<MemoryOpened> {
+    pub fn opened(&mut self, number: usize) -> io::Result<MemoryOpened>
+        ensures { self.new.past ≡ self.old.past }
+    {
         self.openings = self.openings.wrapping_add(1);
         let opening = counted(self.alloc, self.openings)?;
         Ok(MemoryOpened {
             node: number,
-            handle: self.node(number)?.handles.clone()?,
+            handle: node_at(&self.nodes, number)?.handles.clone()?,
             opening,
         })
     }
 
     /// Takes the lock of an open file, which one opening has at a time.
-    pub fn lock(&mut self, opened: &MemoryOpened) -> io::Result<()> {
+    pub fn lock(&mut self, opened: &MemoryOpened) -> io::Result<()>
+        ensures { self.new.past ≡ self.old.past }
+    {
         let opening = opened.opening.clone()?;
-        let node = self.node_mut(opened.node)?;
+        let node = node_at_mut(&mut self.nodes, opened.node)?;
         if let Some(holder) = &node.holder {
             if Rc::strong_count(holder) > 1 && **holder != *opening {
                 return fault(ErrorKind::WouldBlock);
@@ -198,35 +171,50 @@ impl MemoryDisk {
     pub fn is_held(&self, name: &str, held: &MemoryHeld) -> bool {
         match self.number(name) {
             Ok(number) => match self.nodes.get(number) {
-                Some(node) => number == held.opened.node && has_lock(node, &held.opened),
+                Some(node) => number == held.opened.node && node.has_lock(&held.opened),
                 None => false,
             },
             Err(_) => false,
         }
     }
 
-    /// Adds the old file, which has the path.
-    pub fn add_old(&mut self) -> Result<(), AllocError> {
-        self.add(0, OLD, OLD_MODE)?;
+    /// Adds a file that has the path from the beginning, and is as long as said.
+    pub fn add_first(&mut self, bytes: &[u8], size: u64) -> Result<(), AllocError> {
+        self.add(0, bytes, OLD_MODE)?;
         if let Some(node) = self.nodes.last_mut() {
-            node.about.size = OLD_SIZE;
+            node.about.size = size;
         }
-        self.has_old = true;
+        self.past.place(self.alloc, bytes)?;
+        self.past.keep();
         self.kept = self.names[0];
         Ok(())
     }
 
+    /// Adds the old file, which has the path.
+    pub fn add_old(&mut self) -> Result<(), AllocError> {
+        self.has_old = true;
+        self.add_first(OLD, OLD_SIZE)
+    }
+
     /// Gives a name to a file, or takes it away.
-    pub fn bind(&mut self, slot: usize, node: Option<usize>) {
+    pub fn bind(&mut self, slot: usize, node: Option<usize>)
+        ensures { self.new.past ≡ self.old.past }
+    {
         if let Some(name) = self.names.get_mut(slot) {
             *name = node;
         }
     }
 
-    /// Sees what a power cut would leave at the path: the file that has it on the disk, or the one that has it now.
-    pub fn see(&mut self) {
+    /// Sees what a power cut would leave at the path: the file that has it on the disk, or the one that has it now; and
+    /// that both are what is written down of the path.
+    pub fn see(&mut self)
+        ensures { self.new.past ≡ self.old.past }
+    {
         let now = self.names[0];
-        if !self.is_whole(now) || !self.is_whole(self.kept) {
+        let is_whole = self.is_whole(now) && self.is_whole(self.kept);
+        let is_past = self.past.ends_with(self.bytes_of(now))
+            && self.past.begins_with(self.bytes_of(self.kept));
+        if !is_whole || !is_past {
             self.is_wrong = true;
         }
     }
@@ -240,6 +228,10 @@ impl MemoryDisk {
                 None => false,
             },
         }
+    }
+
+    fn bytes_of(&self, node: Option<usize>) -> Option<&[u8]> {
+        Some(self.nodes.get(node?)?.bytes.as_slice())
     }
 
     /// The place of a name among those there are.
@@ -262,23 +254,37 @@ impl MemoryDisk {
     }
 
     pub fn node(&self, number: usize) -> io::Result<&Node> {
-        match self.nodes.get(number) {
-            Some(node) => Ok(node),
-            None => fault(ErrorKind::NotFound),
-        }
+        node_at(&self.nodes, number)
     }
 
-    pub fn node_mut(&mut self, number: usize) -> io::Result<&mut Node> {
-        match self.nodes.get_mut(number) {
-            Some(node) => Ok(node),
-            None => fault(ErrorKind::NotFound),
+    /// Writes bytes behind those that a file has, which nobody may read that might not read the old file.
+    pub fn append(&mut self, number: usize, bytes: &[u8])
+        ensures { self.new.past ≡ self.old.past }
+    {
+        self.pass();
+        let (time, has_old) = (self.time, self.has_old);
+        let Ok(node) = node_at_mut(&mut self.nodes, number) else {
+            return;
+        };
+        let is_full = node.bytes.extend_from_slice(bytes).is_err();
+        node.is_kept = false;
+        node.about.size = node.bytes.len() as u64;
+        node.about.modified = (time, 0);
+        let is_open = has_old && node.about.mode & !OLD_MODE != 0;
+        self.is_wrong |= is_open || is_full;
+    }
+
+    /// How many bytes a file has.
+    pub fn len_of(&self, number: usize) -> usize {
+        match self.nodes.get(number) {
+            Some(node) => node.bytes.len(),
+            None => 0,
         }
     }
 
     /// What the path has now.
     pub fn at_path(&self) -> Option<&[u8]> {
-        let number = self.names[0]?;
-        Some(self.nodes.get(number)?.bytes.as_slice())
+        self.bytes_of(self.names[0])
     }
 }
 
@@ -287,13 +293,6 @@ fn counted(alloc: Global, number: usize) -> Result<Rc<usize>, AllocError> {
     match Rc::new(alloc, number) {
         Ok(counted) => Ok(counted),
         Err(_) => Err(AllocError),
-    }
-}
-
-fn has_lock(node: &Node, opened: &MemoryOpened) -> bool {
-    match &node.holder {
-        Some(holder) => **holder == *opened.opening,
-        None => false,
     }
 }
 

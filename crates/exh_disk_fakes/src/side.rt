@@ -1,161 +1,17 @@
 //! What one saver sees of a file system in memory.
-ghost use Rattle.std.specs.Prelude.{◌≡◌, None};
+ghost use Rattle.std.specs.Prelude.{◌≡◌, None, Some, [], OnOk, OnErr};
+ghost use Rattle.exh_disk.specs.History.{placed};
+ghost use Rattle.exh_disk_fakes.specs.Past.{history_at, known};
 
-use crate::memory_disk::{
-    MAGIC, MemoryDisk, MemoryFile, MemoryHeld, MemoryOpened, NAMES, OLD_MODE, SAVED, USER, fault,
-};
-use exh_disk::{
-    Disk, Found, Head, Kind, Runner, Seen, Source, SourceFault, Stage, Target, Watch, save,
-};
+use crate::memory_disk::{OLD_MODE, USER, fault};
+use crate::memory_writer::PIECE;
+use crate::node::node_at_mut;
+use crate::past::PATH;
+use crate::{Between, MemoryDisk, MemoryFile, MemoryHeld, MemoryOpened, MemoryWriter, Saver};
+use exh_disk::{Disk, Found, Head, Kind, Runner, Stage};
 use std::alloc::Global;
 use std::io;
-use std::io::{ErrorKind, Write};
-
-/// What a save came to.
-#[derive(Clone, Copy)]
-pub enum Ending {
-    Refused,
-    /// It is done, but its folder may not be on the disk.
-    Placed,
-    /// It is done, and on the disk.
-    Settled,
-}
-
-/// Who saves, and which call of it fails, alone or as all behind it do.
-#[derive(Clone, Copy)]
-pub struct Saver {
-    number: usize,
-    fails_at: usize,
-    is_killed: bool,
-}
-
-impl Saver {
-    pub fn new(number: usize) -> Saver {
-        Saver::failing(number, 0)
-    }
-
-    /// One of which this call fails, and 0 is none.
-    pub fn failing(number: usize, fails_at: usize) -> Saver {
-        Saver {
-            number,
-            fails_at,
-            is_killed: false,
-        }
-    }
-
-    /// One that is killed at this call, and 0 is none.
-    pub fn killed(number: usize, killed_at: usize) -> Saver {
-        Saver {
-            number,
-            fails_at: killed_at,
-            is_killed: killed_at > 0,
-        }
-    }
-
-    fn fails(&self, call: usize) -> bool {
-        call == self.fails_at || self.is_killed && call > self.fails_at
-    }
-}
-
-/// Who comes in between the calls of a saver.
-pub trait Between {
-    fn come(&mut self, disk: &mut MemoryDisk);
-}
-
-#[derive(Drop)]
-pub struct Nobody;
-
-impl Between for Nobody {
-    fn come(&mut self, _disk: &mut MemoryDisk) {}
-}
-
-/// Another saver, which saves before one of the calls. It saw what was there in the beginning.
-#[derive(Drop)]
-pub struct OtherSaver<'s> {
-    pub at: usize,
-    /// At which of its own calls it is killed, and 0 is none.
-    pub killed_at: usize,
-    pub calls: usize,
-    pub seen: Option<&'s Seen<MemoryOpened>>,
-    pub ending: &'s mut Ending,
-}
-
-impl Between for OtherSaver<'_> {
-    fn come(&mut self, disk: &mut MemoryDisk) {
-        self.calls = self.calls.wrapping_add(1);
-        if self.calls == self.at {
-            *self.ending = save_as(disk, Saver::killed(1, self.killed_at), self.seen, Nobody);
-        }
-    }
-}
-
-/// Saves as a saver. At its end its locks are let go.
-pub fn save_as<B: Between + Drop>(
-    disk: &mut MemoryDisk,
-    saver: Saver,
-    seen: Option<&Seen<MemoryOpened>>,
-    between: B,
-) -> Ending {
-    let target = Target {
-        path: NAMES[0],
-        magic: MAGIC,
-        seen,
-    };
-    let alloc = disk.alloc;
-    let Some(saved) = SAVED.get(saver.number) else {
-        return Ending::Refused;
-    };
-    let Ok(bytes) = Vec::from_slice(alloc, *saved) else {
-        return Ending::Refused;
-    };
-    let source = Bytes { bytes };
-    let (saved, _source) = save(
-        alloc,
-        &mut Side::new(disk, saver, between),
-        &target,
-        source,
-        &Unwatched,
-    );
-    match saved {
-        Ok(saved) => ending_of(saved.folder),
-        Err(_) => Ending::Refused,
-    }
-}
-
-// How a save ended that is done, by why its folder isn't on the disk.
-fn ending_of(folder: Option<io::Error>) -> Ending {
-    match folder {
-        Some(_) => Ending::Placed,
-        None => Ending::Settled,
-    }
-}
-
-/// A saver's bytes.
-#[derive(Drop)]
-struct Bytes {
-    bytes: Vec<u8>,
-}
-
-impl Source for Bytes {
-    ghost leaves = { λ old new. new ≡ old };
-
-    ghost bytes = { λ source. source.bytes.items };
-
-    fn write_to<W: Write>(self, writer: &mut W) -> (Result<(), SourceFault>, Self) {
-        match writer.write_all(self.bytes.as_slice()) {
-            Ok(()) => (Ok(()), self),
-            Err(_) => (Err(SourceFault::Writer), self),
-        }
-    }
-}
-
-/// Nobody is told of what is written.
-#[derive(Drop)]
-struct Unwatched;
-
-impl Watch for Unwatched {
-    fn wrote(&self, _bytes: &[u8]) {}
-}
+use std::io::ErrorKind;
 
 /// One saver's calls, and who comes in between.
 #[derive(Drop)]
@@ -177,7 +33,9 @@ impl<'d, B: Between + Drop> Side<'d, B> {
     }
 
     // One more call: it is seen what a power cut before it would leave, and it may fail.
-    fn enter(&mut self) -> io::Result<()> {
+    fn enter(&mut self) -> io::Result<()>
+        ensures { known B.comes self.new.disk.now.past ≡ known B.comes self.old.disk.now.past }
+    {
         self.between.come(self.disk);
         self.disk.see();
         self.calls = self.calls.wrapping_add(1);
@@ -187,33 +45,71 @@ impl<'d, B: Between + Drop> Side<'d, B> {
         Ok(())
     }
 
-    fn found(&mut self, name: &str) -> io::Result<Found> {
+    fn found(&mut self, name: &str) -> io::Result<Found>
+        ensures { known B.comes self.new.disk.now.past ≡ known B.comes self.old.disk.now.past }
+    {
         self.enter()?;
         let number = self.disk.number(name)?;
         Ok(self.disk.node(number)?.about)
     }
 
-    // Gives the file of a name a path.
-    fn give_path(&mut self, name: &str, path: &str) -> io::Result<()> {
-        let (from, to) = (self.disk.slot(name)?, self.disk.slot(path)?);
+    // Gives a file the path, and takes its name away.
+    fn give_path(&mut self, file: &MemoryFile, name: &str, path: &str) -> io::Result<()>
+        ensures ok { OnOk result (history_at (known B.comes self.new.disk.now.past) path.now
+            ≡ placed (history_at (known B.comes self.old.disk.now.past) path.now) (Some file.now.bytes.items)) }
+        ensures err { OnErr result (known B.comes self.new.disk.now.past ≡ known B.comes self.old.disk.now.past) }
+    {
+        if path != PATH {
+            return fault(ErrorKind::InvalidInput);
+        }
+        let alloc = self.disk.alloc;
+        let from = self.disk.slot(name)?;
         let number = self.disk.number(name)?;
-        self.disk.bind(to, Some(number));
+        self.disk.past.place(alloc, file.bytes.as_slice())?;
+        self.disk.bind(0, Some(number));
         self.disk.bind(from, None);
         Ok(())
     }
 
+    // Gives a file the path beside its name.
+    fn give_link(&mut self, file: &MemoryFile, name: &str, path: &str) -> io::Result<()>
+        ensures ok { OnOk result (history_at (known B.comes self.new.disk.now.past) path.now
+            ≡ placed (history_at (known B.comes self.old.disk.now.past) path.now) (Some file.now.bytes.items)) }
+        ensures err { OnErr result (known B.comes self.new.disk.now.past ≡ known B.comes self.old.disk.now.past) }
+    {
+        if path != PATH {
+            return fault(ErrorKind::InvalidInput);
+        }
+        if self.disk.number(path).is_ok() {
+            return fault(ErrorKind::AlreadyExists);
+        }
+        let alloc = self.disk.alloc;
+        let number = self.disk.number(name)?;
+        node_at_mut(&mut self.disk.nodes, number)?.about.links = 2;
+        self.disk.past.place(alloc, file.bytes.as_slice())?;
+        self.disk.bind(0, Some(number));
+        Ok(())
+    }
+
     // Takes a name away.
-    fn unlink(&mut self, name: &str) -> io::Result<()> {
+    fn unlink(&mut self, name: &str) -> io::Result<()>
+        ensures { self.new.disk.now.past ≡ self.old.disk.now.past }
+    {
+        if name == PATH {
+            return fault(ErrorKind::InvalidInput);
+        }
         let slot = self.disk.slot(name)?;
         let number = self.disk.number(name)?;
         self.disk.bind(slot, None);
-        self.disk.node_mut(number)?.about.links = 1;
+        node_at_mut(&mut self.disk.nodes, number)?.about.links = 1;
         Ok(())
     }
 }
 
 impl<B: Between + Drop> Disk for Side<'_, B> {
     type File = MemoryFile;
+
+    type Writer = MemoryWriter;
 
     type Opened = MemoryOpened;
 
@@ -223,11 +119,15 @@ impl<B: Between + Drop> Disk for Side<'_, B> {
 
     ghost stage = { λ file. file.stage };
 
-    ghost unwritten = { None };
+    ghost unwritten = { Some [] };
 
-    ghost holds = { λ _. None };
+    ghost holds = { λ file. Some file.bytes.items };
 
     ghost stands = { λ held. held.stands };
+
+    ghost history = { λ side. history_at (known B.comes side.disk.now.past) };
+
+    ghost leads = { λ named whole. whole ≡ named };
 
     fn runner(&mut self) -> io::Result<Runner> {
         self.enter()?;
@@ -294,11 +194,7 @@ impl<B: Between + Drop> Disk for Side<'_, B> {
         self.unlink(name)
     }
 
-    fn open(&mut self, _path: &str) -> io::Result<Vec<u8>> {
-        fault(ErrorKind::Unsupported)
-    }
-
-    fn ask_device(&mut self, _device: &Vec<u8>) -> io::Result<Found> {
+    fn open(&mut self, _path: &str) -> io::Result<Option<Vec<u8>>> {
         fault(ErrorKind::Unsupported)
     }
 
@@ -308,6 +204,9 @@ impl<B: Between + Drop> Disk for Side<'_, B> {
 
     fn make(&mut self, name: &str, mode: u32) -> io::Result<MemoryFile> {
         self.enter()?;
+        if name == PATH {
+            return fault(ErrorKind::InvalidInput);
+        }
         let slot = self.disk.slot(name)?;
         if self.disk.number(name).is_ok() {
             return Err(io::Error::from(ErrorKind::AlreadyExists));
@@ -317,6 +216,7 @@ impl<B: Between + Drop> Disk for Side<'_, B> {
         Ok(MemoryFile {
             opened: self.disk.opened(node)?,
             stage: Stage::Made,
+            bytes: Vec::new(self.disk.alloc),
         })
     }
 
@@ -328,6 +228,7 @@ impl<B: Between + Drop> Disk for Side<'_, B> {
         Ok(MemoryFile {
             opened: self.disk.opened(node)?,
             stage: Stage::Left,
+            bytes: Vec::new(self.disk.alloc),
         })
     }
 
@@ -347,7 +248,9 @@ impl<B: Between + Drop> Disk for Side<'_, B> {
 
     fn restrict(&mut self, file: &mut MemoryFile) -> io::Result<()> {
         self.enter()?;
-        self.disk.node_mut(file.opened.node)?.about.mode = 0o600;
+        node_at_mut(&mut self.disk.nodes, file.opened.node)?
+            .about
+            .mode = 0o600;
         file.stage = Stage::Restricted;
         Ok(())
     }
@@ -355,12 +258,13 @@ impl<B: Between + Drop> Disk for Side<'_, B> {
     // A file that has bytes is emptied only where nobody else can open it that might not read the old file.
     fn empty(&mut self, file: &mut MemoryFile) -> io::Result<()> {
         self.enter()?;
-        let node = self.disk.node_mut(file.opened.node)?;
+        let node = node_at_mut(&mut self.disk.nodes, file.opened.node)?;
         let is_open = !node.bytes.is_empty() && node.about.mode & !OLD_MODE != 0;
         node.bytes.clear();
         node.about.size = 0;
         node.is_kept = false;
         self.disk.is_wrong |= is_open;
+        file.bytes.clear();
         file.stage = Stage::Empty;
         Ok(())
     }
@@ -377,7 +281,7 @@ impl<B: Between + Drop> Disk for Side<'_, B> {
     // A file has its permissions before its first byte.
     fn permit(&mut self, file: &mut MemoryFile, mode: u32) -> io::Result<()> {
         self.enter()?;
-        let node = self.disk.node_mut(file.opened.node)?;
+        let node = node_at_mut(&mut self.disk.nodes, file.opened.node)?;
         let is_late = !node.bytes.is_empty();
         node.about.mode = mode;
         self.disk.is_wrong |= is_late;
@@ -385,27 +289,39 @@ impl<B: Between + Drop> Disk for Side<'_, B> {
         Ok(())
     }
 
-    // Writes at most three bytes, which nobody may read that might not read the old file.
-    fn write(&mut self, file: &mut MemoryFile, bytes: &[u8]) -> io::Result<usize> {
+    fn begin_writing(&mut self, file: MemoryFile) -> MemoryWriter {
+        MemoryWriter {
+            file,
+            saver: self.saver,
+            calls: self.calls,
+        }
+    }
+
+    // The pieces come to the file system one after the other, as they were written.
+    fn end_writing(&mut self, writer: MemoryWriter) -> MemoryFile {
+        let MemoryWriter {
+            mut file,
+            calls,
+            ..
+        } = writer;
+        let mut at = self.disk.len_of(file.opened.node);
+        'pieces: for _ in self.calls..calls {
+            self.between.come(self.disk);
+            self.disk.see();
+            let end = file.bytes.len().min(at.saturating_add(PIECE));
+            if at < end {
+                self.disk.append(file.opened.node, &file.bytes[at..end]);
+                at = end;
+            }
+        }
+        self.calls = calls;
         file.stage = Stage::Written;
-        self.enter()?;
-        let count = bytes.len().min(3);
-        let front = &bytes[..count];
-        self.disk.pass();
-        let (time, has_old) = (self.disk.time, self.disk.has_old);
-        let node = self.disk.node_mut(file.opened.node)?;
-        node.bytes.extend_from_slice(front)?;
-        node.is_kept = false;
-        node.about.size = node.bytes.len() as u64;
-        node.about.modified = (time, 0);
-        let is_open = has_old && node.about.mode & !OLD_MODE != 0;
-        self.disk.is_wrong |= is_open;
-        Ok(count)
+        file
     }
 
     fn synchronize(&mut self, file: &mut MemoryFile) -> io::Result<()> {
         self.enter()?;
-        self.disk.node_mut(file.opened.node)?.is_kept = true;
+        node_at_mut(&mut self.disk.nodes, file.opened.node)?.is_kept = true;
         file.stage = Stage::Synchronized;
         Ok(())
     }
@@ -421,7 +337,7 @@ impl<B: Between + Drop> Disk for Side<'_, B> {
         self.enter()?;
         let is_free = !self.disk.is_held(path, held);
         self.disk.is_wrong |= is_free;
-        self.give_path(name, path)?;
+        self.give_path(file, name, path)?;
         file.stage = Stage::Placed;
         Ok(())
     }
@@ -432,12 +348,7 @@ impl<B: Between + Drop> Disk for Side<'_, B> {
             file.stage = Stage::Unlinkable;
             return Ok(false);
         }
-        if self.disk.number(path).is_ok() {
-            return Err(io::Error::from(ErrorKind::AlreadyExists));
-        }
-        let (to, number) = (self.disk.slot(path)?, self.disk.number(name)?);
-        self.disk.bind(to, Some(number));
-        self.disk.node_mut(number)?.about.links = 2;
+        self.give_link(file, name, path)?;
         file.stage = Stage::Linked;
         Ok(true)
     }
@@ -450,15 +361,19 @@ impl<B: Between + Drop> Disk for Side<'_, B> {
 
     fn rename_new(&mut self, file: &mut MemoryFile, name: &str, path: &str) -> io::Result<()> {
         self.enter()?;
-        self.give_path(name, path)?;
+        self.give_path(file, name, path)?;
         file.stage = Stage::Placed;
         Ok(())
     }
 
-    fn synchronize_folder(&mut self, file: &mut MemoryFile, _folder: &str) -> io::Result<()> {
+    fn synchronize_folder(&mut self, file: &mut MemoryFile, path: &str) -> io::Result<()> {
         file.stage = Stage::Settled;
         self.enter()?;
+        if path != PATH {
+            return fault(ErrorKind::InvalidInput);
+        }
         self.disk.kept = self.disk.names[0];
+        self.disk.past.keep();
         Ok(())
     }
 

@@ -1,0 +1,40 @@
+//! Open files of a file system in memory.
+
+use exh_disk::Stage;
+use std::alloc::AllocError;
+use std::rc::Rc;
+
+/// A file that is open, and the number of this opening of it.
+#[derive(Drop)]
+pub struct MemoryOpened {
+    pub node: usize,
+    pub handle: Rc<usize>,
+    pub opening: Rc<usize>,
+}
+
+/// An open file that is on its way to the path.
+#[derive(Drop)]
+pub struct MemoryFile {
+    pub opened: MemoryOpened,
+    pub stage: Stage,
+    /// What it has since it was emptied.
+    pub bytes: Vec<u8>,
+}
+
+/// The lock of an open file, and whether that was at its path at the last look.
+#[derive(Drop)]
+pub struct MemoryHeld {
+    pub opened: MemoryOpened,
+    pub stands: bool,
+}
+
+impl MemoryOpened {
+    /// One more handle of the same opening.
+    pub fn again(&self) -> Result<MemoryOpened, AllocError> {
+        Ok(MemoryOpened {
+            node: self.node,
+            handle: self.handle.clone()?,
+            opening: self.opening.clone()?,
+        })
+    }
+}

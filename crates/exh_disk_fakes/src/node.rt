@@ -1,0 +1,44 @@
+//! A file of a file system in memory, whether or not it has a name.
+
+use crate::MemoryOpened;
+use crate::memory_disk::fault;
+use exh_disk::Found;
+use std::io;
+use std::io::ErrorKind;
+use std::rc::Rc;
+
+/// A file.
+#[derive(Drop)]
+pub struct Node {
+    pub about: Found,
+    pub bytes: Vec<u8>,
+    /// Whether all of it is on the disk.
+    pub is_kept: bool,
+    /// By how many more than one it is open.
+    pub handles: Rc<usize>,
+    /// Which opening of it has the lock, as long as there is another handle of that.
+    pub holder: Option<Rc<usize>>,
+}
+
+impl Node {
+    pub(crate) fn has_lock(&self, opened: &MemoryOpened) -> bool {
+        match &self.holder {
+            Some(holder) => **holder == *opened.opening,
+            None => false,
+        }
+    }
+}
+
+pub(crate) fn node_at(nodes: &[Node], number: usize) -> io::Result<&Node> {
+    match nodes.get(number) {
+        Some(node) => Ok(node),
+        None => fault(ErrorKind::NotFound),
+    }
+}
+
+pub(crate) fn node_at_mut(nodes: &mut [Node], number: usize) -> io::Result<&mut Node> {
+    match nodes.get_mut(number) {
+        Some(node) => Ok(node),
+        None => fault(ErrorKind::NotFound),
+    }
+}
