@@ -3,14 +3,15 @@
 //!
 //! - `lines`, `rows`, `refusals`, `live`, `threads`: `[SEED ROUNDS [all|KIND [wrong]]]`, how many steps each run took, and
 //!   how many of them differed from what was worked out by hand;
-//! - `images`: `SIZE [storm CALLERS CALLS]`, what a script or a storm comes to over pages that stand as images.
+//! - `images`: `SIZE [storm CALLERS CALLS]`, what a script or a storm comes to over images behind caches of that size;
+//! - `plain`: `[storm CALLERS CALLS]`, the same over plain pages.
 //!
-//! Without words the runs of each list but the last are made, at their usual length.
+//! Without words the runs of each list of the first kind are made, at their usual length.
 #![tactic(auto)]
 
-mod images;
+mod stores;
 
-use crate::images::run_images;
+use crate::stores::{run_images, run_plain};
 use beside_live::{play_live, play_threads};
 use beside_rows::run_rows;
 use beside_worlds::{run_lines, run_refusals};
@@ -66,6 +67,7 @@ fn run<R: Threads + Wait + Clock + Print + Eprint + AllocGlobal + Sync>(
     match words {
         [] => ended(rt, run_all(threads)),
         [first, rest @ ..] if first.as_str() == "images" => run_images(rt, threads, rest),
+        [first, rest @ ..] if first.as_str() == "plain" => run_plain(rt, threads, rest),
         [first, rest @ ..] => ended(rt, run_named(threads, first, rest)),
     }
 }

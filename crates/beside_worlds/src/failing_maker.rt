@@ -1,6 +1,5 @@
 //! Stores of which one call fails.
 
-use exh_codec::DIGEST_LEN;
 use exh_frames::{FailingPages, Pages, StoreMaker};
 use exh_keyer::Keyer;
 use exh_page::Page;
@@ -15,18 +14,13 @@ pub(crate) struct FailingMaker<M> {
 
 impl<P: Pages + Drop, K: Keyer, M: StoreMaker<P, K>> StoreMaker<FailingPages<P>, K>
     for FailingMaker<M> {
+    type Read = M::Read;
+
     fn first(&self, alloc: Global, keyer: K, page: Page) -> Result<FailingPages<P>, AllocError> {
         Ok(FailingPages::new(self.inner.first(alloc, keyer, page)?, self.at))
     }
 
-    fn of_pages(
-        &self,
-        alloc: Global,
-        keyer: K,
-        given: Vec<Page>,
-        digests: &[[u8; DIGEST_LEN]],
-    ) -> Result<FailingPages<P>, AllocError> {
-        let inner = self.inner.of_pages(alloc, keyer, given, digests)?;
-        Ok(FailingPages::new(inner, self.at))
+    fn of_read(&self, alloc: Global, read: M::Read) -> Result<FailingPages<P>, AllocError> {
+        Ok(FailingPages::new(self.inner.of_read(alloc, read)?, self.at))
     }
 }

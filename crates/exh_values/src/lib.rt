@@ -9,8 +9,6 @@ mod copies;
 #[cfg(test)]
 mod diaries;
 #[cfg(test)]
-mod file_doors;
-#[cfg(test)]
 mod images;
 #[cfg(test)]
 mod joins;
@@ -19,14 +17,8 @@ mod keys;
 #[cfg(test)]
 mod leaves;
 #[cfg(test)]
-mod live_doors;
-#[cfg(test)]
 mod notices;
-#[cfg(test)]
-mod page_doors;
 #[cfg(test)]
 mod texts;
 #[cfg(test)]
 mod walks;
-#[cfg(test)]
-mod world_doors;

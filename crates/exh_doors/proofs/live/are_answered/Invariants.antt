@@ -1,5 +1,5 @@
 use Rattle.std.specs.Prelude.{◌≡◌}
-use Rattle.exh_values.proofs.live_doors.are_answered.Given as goal
+use Rattle.exh_doors.proofs.live.are_answered.Given as goal
 
 -- the seat looks at the same copy
 abbrev pub invariant-lines : goal.invariant-lines

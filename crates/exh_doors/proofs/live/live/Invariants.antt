@@ -1,6 +1,6 @@
 use Rattle.std.specs.FinMap as map
 use Rattle.exh_keyer.specs.Pseudokey.{plain_pseudokey}
-use Rattle.exh_values.proofs.live_doors.live.Given as goal
+use Rattle.exh_doors.proofs.live.live.Given as goal
 
 abbrev pub ghosts-with_copy-F-LedgerNames : goal.ghosts-with_copy-F-LedgerNames
 ghosts-with_copy-F-LedgerNames g a = record { answers = a.answers.name; entries = a.entries.name }

@@ -1,10 +1,11 @@
-//! Answers the script on standard input over pages that stand as images, each ward's behind a cache of as many decoded
-//! pages as a word says, and prints what `exhash serve` does, the notes on standard error too; or runs
-//! a storm over such pages, and prints what `exhash storm` does.
+//! Answers the script on standard input over stores that the program doesn't have, and prints what `exhash serve` does,
+//! the notes on standard error too; or runs a storm over such stores, and prints what `exhash storm` does. They are
+//! stores of images, each behind a cache of as many decoded pages as a word says, or stores of plain pages.
 ghost use Rattle.std.specs.Prelude.{IfSome};
 ghost use Rattle.exh_settings.specs.StormConfig.{IsStormConfig};
 
-use exh_frames::FramedMaker;
+use exh_frames::{FramedMaker, FramedPages, Pages, PlainMaker, PlainPages, StoreMaker};
+use exh_keyer::{AnyKeyer, ShaKeyer};
 use exh_live::{NoWatch, storm_over};
 use exh_notes::{Expect, Notes};
 use exh_script::{ServeFault, serve_over};
@@ -24,30 +25,54 @@ const WRONG_WORDS: u8 = 2;
 // The number of the refusal where memory ended the run.
 const OUT_OF_MEMORY: u8 = 10;
 
-// What words ask for: how many pages a cache holds, and a storm, or none where a script is answered.
+// What words ask for: a storm, or none where a script is answered.
 #[derive(Clone, Copy)]
 struct Job {
-    size: usize,
     storm: Option<StormConfig>,
 }
 
-/// Does what words ask for: `SIZE`, or `SIZE storm CALLERS CALLS`. Only a storm starts threads. The status is 0, 1 where the
-/// script isn't answered to its end or the storm isn't settled, and 2 where the words ask for neither.
+/// Runs over images what words ask for: `SIZE`, or `SIZE storm CALLERS CALLS`. Only a storm starts threads. The status is
+/// 0, 1 where the script isn't answered to its end or the storm isn't settled, and 2 where the words ask for neither.
 pub(crate) fn run_images(
     rt: &HostRuntime,
     threads: &(impl Threads + Wait + Sync),
     words: &[String],
 ) -> ExitCode {
-    let Some(job) = job_of(words) else {
-        // Where the line can't be written, the status alone tells.
-        let _ = eprintln!(rt; "usage: beside images SIZE [storm CALLERS CALLS]");
-        return ExitCode::from(WRONG_WORDS);
-    };
-    match (FramedMaker::new(job.size), job.storm) {
-        (Ok(maker), Some(config)) => run_storm(rt, threads, &maker, &config),
-        (Ok(maker), None) => serve(rt, &maker),
-        (Err(fault), _) => refuse(rt, fault.number()),
+    match words {
+        [size, rest @ ..] => match (size.parse::<usize>(), job_of(rest)) {
+            (Ok(size), Some(job)) => match FramedMaker::new(size) {
+                Ok(maker) => {
+                    run::<FramedPages<AnyKeyer>, FramedPages<ShaKeyer>, FramedMaker>(
+                        rt, threads, &maker, job,
+                    )
+                }
+                Err(fault) => refuse(rt, fault.number()),
+            },
+            _ => tell_usage(rt),
+        },
+        [] => tell_usage(rt),
     }
+}
+
+/// Runs over plain pages what words ask for: nothing more, or `storm CALLERS CALLS`. The status is that of `run_images`.
+pub(crate) fn run_plain(
+    rt: &HostRuntime,
+    threads: &(impl Threads + Wait + Sync),
+    words: &[String],
+) -> ExitCode {
+    match job_of(words) {
+        Some(job) => run::<PlainPages, PlainPages, PlainMaker>(rt, threads, &PlainMaker, job),
+        None => tell_usage(rt),
+    }
+}
+
+// Says which words there are.
+fn tell_usage(rt: &HostRuntime) -> ExitCode {
+    // Where the line can't be written, the status alone tells.
+    let _ = eprintln!(rt;
+        "usage: beside images SIZE [storm CALLERS CALLS], beside plain [storm CALLERS CALLS]"
+    );
+    ExitCode::from(WRONG_WORDS)
 }
 
 // What words ask for.
@@ -55,15 +80,28 @@ fn job_of(words: &[String]) -> Option<Job>
     ensures { IfSome result (λ job. IfSome job.storm IsStormConfig) }
 {
     match words {
-        [size] => Some(Job {
-            size: size.parse::<usize>().ok()?,
-            storm: None,
-        }),
-        [size, word, callers, calls] if word.as_str() == "storm" => Some(Job {
-            size: size.parse::<usize>().ok()?,
+        [] => Some(Job { storm: None }),
+        [word, callers, calls] if word.as_str() == "storm" => Some(Job {
             storm: Some(storm_of(callers, calls)?),
         }),
         _ => None,
+    }
+}
+
+// Answers the script, or runs the storm, over the maker's stores.
+fn run<S: Pages + Drop, T: Pages + Drop + Send + Sync, M>(
+    rt: &HostRuntime,
+    threads: &(impl Threads + Wait + Sync),
+    maker: &M,
+    job: Job,
+) -> ExitCode
+where
+    M: StoreMaker<S, AnyKeyer> + StoreMaker<T, ShaKeyer> + Sync,
+    requires { IfSome job.storm IsStormConfig }
+{
+    match job.storm {
+        Some(config) => run_storm::<T, M>(rt, threads, maker, &config),
+        None => serve::<S, M>(rt, maker),
     }
 }
 
@@ -87,7 +125,7 @@ fn storm_of(callers: &str, calls: &str) -> Option<StormConfig>
 }
 
 // Answers the script. Where memory ran out the last line is `refused 10`.
-fn serve(rt: &HostRuntime, maker: &FramedMaker) -> ExitCode {
+fn serve<S: Pages + Drop, M: StoreMaker<S, AnyKeyer>>(rt: &HostRuntime, maker: &M) -> ExitCode {
     let mut notes = Notes::new(rt.stderr(), Expect::Keyword);
     let served = serve_over(
         rt.alloc(),
@@ -106,10 +144,10 @@ fn serve(rt: &HostRuntime, maker: &FramedMaker) -> ExitCode {
 }
 
 // Runs a storm whose workers no gate holds back, and prints what came of it.
-fn run_storm(
+fn run_storm<T: Pages + Drop + Send + Sync, M: StoreMaker<T, ShaKeyer>>(
     rt: &HostRuntime,
     threads: &(impl Threads + Wait + Sync),
-    maker: &FramedMaker,
+    maker: &M,
     config: &StormConfig,
 ) -> ExitCode
     requires { IsStormConfig config.now }

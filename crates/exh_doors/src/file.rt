@@ -1,8 +1,10 @@
 //! Calls of a program that reads and writes page files, over the file of three pairs, whose bytes and texts were worked out
 //! by hand.
 
-use exh_file::{open, read_file, write_file};
+use exh_file::{Opened, open, open_over, read_file, write_file};
 use exh_fixtures::three_pairs;
+use exh_frames::{FramedMaker, FramedPages};
+use exh_keyer::AnyKeyer;
 use exh_report::{Verdict, check_text, dump_text};
 use std::alloc::Global;
 use std::test::Fail;
@@ -40,6 +42,22 @@ fn file_is_opened_and_written(rt: HostRuntime) -> Result<(), Fail> {
     write_file(&mut written, &mut opened)?;
     assert!(rt; written.as_slice() == file.as_slice());
     assert!(rt; opened.cap() == 2 && opened.wards()[0].page_count() == 2);
+    Ok(())
+}
+
+// The blocks of the pages are kept as they were read, and are written so.
+#[test]
+fn file_is_opened_over_images(rt: HostRuntime) -> Result<(), Fail> {
+    let file = three_pairs(rt.alloc())?;
+    let maker = FramedMaker::new(2)?;
+    let mut opened: Opened<FramedPages<AnyKeyer>> = open_over(
+        rt.alloc(),
+        &maker,
+        &mut file.as_slice(),
+    )?;
+    let mut written = Vec::new(rt.alloc());
+    write_file(&mut written, &mut opened)?;
+    assert!(rt; written.as_slice() == file.as_slice());
     Ok(())
 }
 

@@ -3,8 +3,8 @@ use Rattle.std.proofs.lemmas.Result.{IfOk-weaker}
 use Rattle.exh_keyer.specs.declared.plain_keyer.PlainKeyer.{PlainKeyer}
 use Rattle.exh_live_file.specs.LiveFile.{LiveState}
 use Rattle.exh_live_file.specs.LiveWardLemmas.{answered_nothing}
-use Rattle.exh_values.specs.declared.live_doors.TheConstants.{SETTINGS}
-use Rattle.exh_values.proofs.live_doors.new_file.Goals as goal
+use Rattle.exh_doors.specs.declared.live.TheConstants.{SETTINGS}
+use Rattle.exh_doors.proofs.live.new_file.Goals as goal
 
 pub new-requires-clause-wards : goal.new-requires-clause-wards
 new-requires-clause-wards g c = (SETTINGS, answered_nothing SETTINGS _ c.in_ok-wards.ensures.wards, c.requires.hashed)
