@@ -13,6 +13,7 @@ pub use laws::{
 };
 pub use left_half::LeftHalf;
 pub use page_index::PageIndex;
+pub use page_laws::{buddies_unite, children_share_all, pages_have_limits, shares_are_records};
 pub use reason::Reason;
 pub use reason_laws::{legal_files_pass, legal_tables_have_room};
 pub use ward_tests::ward_reason;
@@ -28,6 +29,7 @@ mod leaves;
 mod left_half;
 mod links;
 mod page_index;
+mod page_laws;
 mod reason;
 mod reason_laws;
 mod table_fit;

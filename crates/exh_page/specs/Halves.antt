@@ -4,14 +4,18 @@ use Rattle.exh_page.specs.declared.page.Page.{Page}
 use Rattle.exh_page.specs.declared.page.Page.TheVariants.{Live, Forward}
 use Rattle.exh_page.specs.Page.{begun_by, low_bound, records_of}
 
+-- the page of the child of a live page's prefix by a bit, with a right link and the child's share
+abbrev pub half_of : Bool → Option ℕ → Page → Page
+half_of bit right (Live prefix link records) = Live (prefix ++ bit ∷ []) right (begun_by (prefix ++ bit ∷ []) records)
+half_of bit right (Forward low target) = Forward low target
+
 -- the left half of a live page that is split, which links to the page of a number
 abbrev pub left_half : ℕ → Page → Page
-left_half right (Live prefix link records) = Live (prefix ++ false ∷ []) (Some right) (begun_by (prefix ++ false ∷ []) records)
-left_half right (Forward low target) = Forward low target
+left_half right page = half_of false (Some right) page
 
 -- the right half, which has the page's right link
 abbrev pub right_half : Page → Page
-right_half (Live prefix link records) = Live (prefix ++ true ∷ []) link (begun_by (prefix ++ true ∷ []) records)
+right_half (Live prefix link records) = half_of true link (Live prefix link records)
 right_half (Forward low target) = Forward low target
 
 abbrev pub link_of : Page → Option ℕ

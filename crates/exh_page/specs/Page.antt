@@ -1,5 +1,5 @@
 -- Pages: buckets of records, and forwarding pages.
-use Rattle.std.specs.Prelude.{◌≡◌, ⊤, ◌≢◌, ℕ, ◌-◌, ◌^◌, ◌<◌, ◌≤◌, Bool, List, [], length, filter, Some}
+use Rattle.std.specs.Prelude.{◌≡◌, ⊤, ◌≢◌, ℕ, ◌-◌, ◌^◌, ◌<◌, ◌≤◌, Bool, List, [], ◌∷◌, ◌++◌, length, filter, Some}
 use Rattle.std.specs.List.{AllByRecursion}
 use Rattle.exh_prefix.specs.Prefix.{Begins, begins, low_of, HasPrefixUpTo}
 use Rattle.exh_prefix.specs.declared.prefix.TheConstants.{LIMIT}
@@ -42,6 +42,11 @@ begun_by prefix records = filter (λ r. begins prefix r.pseudokey) records
 abbrev pub IsDivisible : Page → Type 0
 IsDivisible (Live prefix right records) = length prefix < LIMIT
 IsDivisible (Forward low target) = ⊥
+
+-- the records of a live page that the child of its prefix by a bit begins
+abbrev pub share_of : Bool → Page → List Record
+share_of bit (Live prefix right records) = begun_by (prefix ++ bit ∷ []) records
+share_of bit (Forward low target) = []
 
 -- well formed under a keyer's pseudokeys, where a prefix has up to `limit` bits
 abbrev pub IsFormedUpTo : ℕ → (List ℕ → ℕ) → Page → Type 0

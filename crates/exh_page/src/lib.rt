@@ -3,7 +3,6 @@
 #![tactic(auto)]
 
 pub use key::{KEY_LIMIT, Key};
-pub use laws::{buddies_unite, children_share_all, pages_have_limits, shares_are_records};
 pub use lent_value::LentValue;
 pub use lookup::Lookup;
 pub use page::{CAP_LIMIT, Page};
@@ -17,7 +16,6 @@ pub use value::{VALUE_LIMIT, Value};
 
 mod halves;
 mod key;
-mod laws;
 mod lent_value;
 mod lookup;
 mod packed_records;

@@ -44,16 +44,6 @@ impl Page {
         }
     }
 
-    /// Whether the page holds records, and doesn't send callers on.
-    pub fn is_live(&self) -> bool
-        ensures { IsTrue result ↔ IsLive self.now }
-    {
-        match self {
-            Page::Live { .. } => true,
-            Page::Forward { .. } => false,
-        }
-    }
-
     /// All of the page but its records, which are counted. It takes no memory.
     pub fn head(&self) -> PageHead
         ensures { result ≡ head_of self.now }

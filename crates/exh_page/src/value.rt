@@ -2,8 +2,8 @@ ghost use Rattle.std.specs.Prelude.{◌≡◌, ℕ, ◌≤◌, List, length};
 ghost use Rattle.std.specs.Result.{OkIff};
 ghost use Rattle.exh_page.specs.declared.value.TheConstants.{VALUE_LIMIT};
 
+use crate::SizeFault;
 use crate::short_bytes::ShortBytes;
-use crate::{LentValue, SizeFault};
 use std::marker::Model;
 
 /// The greatest length of a value, in bytes.
@@ -56,12 +56,5 @@ impl Value {
         ensures limit { length self.now ≤ VALUE_LIMIT }
     {
         self.bytes.as_slice()
-    }
-
-    /// The value, to be read where it stands. It takes no memory.
-    pub fn lend(&self) -> LentValue<'_>
-        ensures { result ≡ self.now }
-    {
-        LentValue::of(self.as_bytes())
     }
 }

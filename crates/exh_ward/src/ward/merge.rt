@@ -8,9 +8,10 @@ ghost use Rattle.exh_ward.specs.WardState.{IsSoundWard, IsUnchanged};
 use super::Ward;
 use crate::WardFault;
 use exh_keyer::Keyer;
-use exh_legal::{LeftHalf, left_children_link_to_siblings, merges_keep_legal, pages_are_few};
+use exh_legal::{
+    LeftHalf, buddies_unite, left_children_link_to_siblings, merges_keep_legal, pages_are_few,
+};
 use exh_notice::{Kind, Notice};
-use exh_page::buddies_unite;
 use exh_prefix::{PageNo, Prefix};
 use exh_stores::Pages;
 

@@ -1,5 +1,5 @@
 use Rattle.std.proofs.Common.{arith}
-use Rattle.exh_page.proofs.laws.pages_have_limits.Goals as goal
+use Rattle.exh_legal.proofs.page_laws.pages_have_limits.Goals as goal
 
 pub returns : goal.returns
 returns c pseudo prefix right records are = record {
