@@ -6,3 +6,4 @@ pub mod Places
 pub mod Contents
 pub mod Changed
 pub mod Laid
+pub mod InRuns

@@ -1,2 +1,4 @@
 pub mod InPlace
+pub mod LentItem
 pub mod PageImages
+pub mod Runs

@@ -1,4 +1,5 @@
 ghost use Rattle.std.specs.Prelude.{◌≡◌, ℕ, ◌+◌, ◌-◌, ◌≤◌, List, [], ◌∷◌, ◌++◌, length, take, drop, remove, replicate};
+ghost use Rattle.std.specs.List.{copy_within};
 ghost use Rattle.exh_page.specs.declared.page.Page.{Page as PageType};
 ghost use Rattle.exh_page.specs.declared.record.Record.{Record as RecordType};
 ghost use Rattle.exh_page.specs.Page.{records_of, with_records};
@@ -15,6 +16,9 @@ use crate::search::index_of_place;
 use exh_codec::BLOCK_LEN;
 use exh_keyer::Keyer;
 use exh_page::{Key, Spot, Value};
+
+// Up to so many bytes are moved by way of no more room than that.
+const FEW_BYTES: usize = 256;
 
 /// Puts a record into the image of a live page: over the one that stands at a spot, where the page has
 /// one, else where it belongs. The records behind it are moved, and nothing else is written but their
@@ -87,11 +91,43 @@ fn resize(block: &mut [u8; BLOCK_LEN], gap: Gap, used: usize, len: usize)
         drop (gap.start + len) block.new ≡ take (used - gap.end) (drop gap.end block.old) ++ (replicate (used - new_used) 0 ++ drop (used + (new_used - used)) block.old) }
 {
     let new_end = gap.start + len;
+    if new_end == gap.end {
+        return;
+    }
     let new_used = new_end + (used - gap.end);
-    block.copy_within(gap.end..used, new_end);
+    move_bytes(block, gap.end, used, new_end);
     if new_used < used {
         block[new_used..used].fill(0);
     }
+}
+
+// Moves bytes of a block to another place. A byte that lies in both is taken before it is written.
+fn move_bytes(block: &mut [u8; BLOCK_LEN], start: usize, end: usize, to: usize)
+    requires order { start ≤ end }
+    requires within { end ≤ BLOCK_LEN }
+    requires room { to + (end - start) ≤ BLOCK_LEN }
+    ensures { block.new ≡ copy_within block.old start end to }
+{
+    if end - start <= FEW_BYTES {
+        move_by::<FEW_BYTES>(block, start, end, to);
+    } else {
+        move_by::<BLOCK_LEN>(block, start, end, to);
+    }
+}
+
+// Moves at most `N` bytes, which are copied as one run, to a place beside the block and from there.
+fn move_by<const N: usize>(block: &mut [u8; BLOCK_LEN], start: usize, end: usize, to: usize)
+    requires order { start ≤ end }
+    requires within { end ≤ BLOCK_LEN }
+    requires room { to + (end - start) ≤ BLOCK_LEN }
+    requires few { end - start ≤ N }
+    requires beside { N ≤ BLOCK_LEN }
+    ensures { block.new ≡ copy_within block.old start end to }
+{
+    let len = end - start;
+    let mut beside = [0; N];
+    beside[..len].copy_from_slice(&block[start..end]);
+    block[to..to + len].copy_from_slice(&beside[..len]);
 }
 
 // Writes a record over the first bytes.

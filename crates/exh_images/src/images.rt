@@ -12,6 +12,7 @@ ghost use Rattle.exh_stores.specs.PageStore.{HasHead, IfPage};
 ghost use Rattle.exh_images.specs.PageImages.{put_into, taken_out};
 
 use crate::image::Image;
+use crate::runs::Runs;
 use exh_codec::{
     BLOCK_LEN, ImageFault, ReadPages, blocks_are_read, decode_content, decode_head,
     images_are_sealed,
@@ -27,7 +28,7 @@ use std::marker::Model;
 #[derive(Drop)]
 pub struct Images<K: Keyer> {
     keyer: K,
-    images: Vec<Image>,
+    images: Runs<Image>,
 }
 
 impl<K: Keyer> Model for Images<K> {
@@ -47,7 +48,7 @@ impl<K: Keyer> Images<K> {
     {
         Images {
             keyer,
-            images: Vec::new(alloc),
+            images: Runs::new(alloc),
         }
     }
 
@@ -76,7 +77,7 @@ impl<K: Keyer> Images<K> {
         requires { number < length self.now.pages }
         ensures { IfOk result (λ page. slice_get self.now.pages number ≡ Some page) }
     {
-        let alloc = *self.images.allocator();
+        let alloc = self.images.allocator();
         let image = &self.images[number as usize];
         match decode_content(alloc, WRITTEN, &self.keyer, &image.block) {
             Ok(page) => Ok(page),
@@ -180,7 +181,7 @@ impl<K: Keyer> Images<K> {
         ensures ok { OnOk result (IfPage self.old.pages number (λ page. self.new.pages ≡ slice_set self.old.pages number (left_half (length self.old.pages) page) ++ right_half page ∷ [])) }
         ensures err { OnErr result (self.new.pages ≡ self.old.pages) }
     {
-        self.images.reserve(1)?;
+        self.images.reserve()?;
         let keyer = self.keyer;
         let right = self.images.len() as PageNo;
         let image = &mut self.images[number as usize];
@@ -222,7 +223,7 @@ impl<K: Keyer> Images<K> {
         ensures ok { OnOk result (self.new.pages ≡ self.old.pages ++ page.now ∷ []) }
         ensures err { OnErr result (self.new.pages ≡ self.old.pages) }
     {
-        self.images.reserve(1)?;
+        self.images.reserve()?;
         self.images.push_reserved(Image::of(page));
         Ok(())
     }
@@ -238,7 +239,7 @@ impl<K: Keyer> Images<K> {
     {
         blocks_are_read();
         images_are_sealed();
-        self.images.reserve(1)?;
+        self.images.reserve()?;
         self.images.push_reserved(Image::of_block(block));
         Ok(())
     }

@@ -10,4 +10,5 @@ mod gap;
 mod halves;
 mod image;
 mod images;
+mod runs;
 mod search;

@@ -21,7 +21,7 @@ invariant_of-self-2 g c =
     let laid : IsLaidOut written_version pseudo page image.block =
     subst (IsLaidOut written_version pseudo page) (sym c.of_block.ensures) ((c.images_are_sealed.ensures written_version pseudo page c.args.block.now).0 is).0 in
     let read = c.blocks_are_read.ensures written_version written_fits pseudo page image.block laid in
-    let items : c.push_reserved.new.self.items ≡ images ++ image ∷ [] = c.push_reserved.ensures.items ∙ ap (λ (l : List Image). l ++ image ∷ []) c.reserve.ensures.items in
+    let items : c.push_reserved.new.self.items ≡ images ++ image ∷ [] = c.push_reserved.ensures ∙ ap (λ (l : List Image). l ++ image ∷ []) c.reserve.ensures.items in
     subst (AreKept pseudo) (sym items) (kept_added pseudo images image page room laid read c.self.invariant)
 
 pub returns-clause-ok : goal.returns-clause-ok
@@ -33,5 +33,5 @@ returns-clause-ok g c page image_is =
     let laid : IsLaidOut written_version pseudo page image.block =
     subst (IsLaidOut written_version pseudo page) (sym c.of_block.ensures) ((c.images_are_sealed.ensures written_version pseudo page c.args.block.now).0 is).0 in
     let read = c.blocks_are_read.ensures written_version written_fits pseudo page image.block laid in
-    let items : c.push_reserved.new.self.items ≡ images ++ image ∷ [] = c.push_reserved.ensures.items ∙ ap (λ (l : List Image). l ++ image ∷ []) c.reserve.ensures.items in
+    let items : c.push_reserved.new.self.items ≡ images ++ image ∷ [] = c.push_reserved.ensures ∙ ap (λ (l : List Image). l ++ image ∷ []) c.reserve.ensures.items in
     ap (pages_in pseudo) items ∙ pages_added pseudo images image page read ∙ ap (λ (l : ImageList g.row.K.Denot). l.pages ++ page ∷ []) c.self.view_is

@@ -24,7 +24,7 @@ returns-clause-ok g c page there =
     let read : own ≡ page = read_at pseudo images number image page within value c.self.invariant is in
     let many : right ≡ length c.args.self.now.pages =
     omega (arith, c.len-right.ensures, ap length same, length-map images (page_in pseudo), ap (λ (l : ImageList g.row.K.Denot). length l.pages) c.self.view_is) in
-    let items : c.push_reserved.new.self.items ≡ set images number left ++ half ∷ [] = c.push_reserved.ensures.items ∙ ap (λ (l : List Image). set l number left ++ half ∷ []) same in
+    let items : c.push_reserved.new.self.items ≡ set images number left ++ half ∷ [] = c.push_reserved.ensures ∙ ap (λ (l : List Image). set l number left ++ half ∷ []) same in
     ap (pages_in pseudo) items ∙ pages_added pseudo (set images number left) half (right_half own) c.split-half.ensures.right.read
     ∙ ap (λ (l : List Page). l ++ right_half own ∷ []) (pages_turned pseudo images number left (left_half right own) c.split-half.ensures.left)
     ∙ ap (λ (p : Page). set (pages_in pseudo images) number (left_half right p) ++ right_half p ∷ []) read
