@@ -1,4 +1,5 @@
 pub mod DiskFault
+pub mod Folder
 pub mod Found
 pub mod History
 pub mod Seen

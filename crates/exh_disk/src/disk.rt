@@ -36,8 +36,8 @@ pub trait Disk {
 
     ghost holds: { Self.File → Option (List ℕ) };
 
-    /// Whether a locked file was found at its path, unchanged, when it was looked at last.
-    ghost stands: { Self.Held → Bool };
+    /// Whether a locked file was found at this path, unchanged, when it was looked at last.
+    ghost stands: { Self.Held → List ℕ → Bool };
 
     /// What has stood at each path, where a model says that, and nobody else changes it meanwhile. Under a name that a
     /// file was made or taken with anything may stand from then on.
@@ -77,12 +77,12 @@ pub trait Disk {
 
     /// Takes the lock of an opened file, and doesn't wait for it.
     fn hold(&mut self, opened: &Self::Opened) -> io::Result<Self::Held>
-        ensures stands { IfOk result (λ held. stands held ≡ false) }
+        ensures stands { IfOk result (λ held. (path : List ℕ) → stands held path ≡ false) }
         ensures crash { history self.new ≡ history self.old };
 
     /// Whether a locked file has the name of a path, as it was.
     fn confirm_old(&mut self, held: &mut Self::Held, path: &str, was: &Found) -> io::Result<bool>
-        ensures stands { IfOk result (λ is_there. stands held.new ≡ is_there) }
+        ensures stands { IfOk result (λ is_there. stands held.new path.now ≡ is_there) }
         ensures crash { history self.new ≡ history self.old };
 
     /// Takes away a name beside a path that is another one of the locked file at the path.
@@ -187,7 +187,7 @@ pub trait Disk {
     ) -> io::Result<()>
         requires stage { stage file.old ≡ Confirmed }
         requires beside { name.now ≢ path.now }
-        requires held { stands held.now ≡ true }
+        requires held { stands held.now path.now ≡ true }
         ensures ok { OnOk result (stage file.new ≡ Placed) }
         ensures err { OnErr result (stage file.new ≡ stage file.old) }
         ensures bytes { holds file.new ≡ holds file.old }

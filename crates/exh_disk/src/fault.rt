@@ -68,13 +68,14 @@ pub enum DiskFault {
 }
 
 impl DiskFault {
-    ghost use Rattle.std.specs.Prelude.{◌≡◌};
+    ghost use Rattle.std.specs.Prelude.{◌≡◌, ◌≢◌};
     ghost use Rattle.std.specs.IoError.{error_kind};
-    ghost use Rattle.exh_disk.specs.DiskFault.{is_memory, is_out_of_memory};
+    ghost use Rattle.exh_disk.specs.declared.fault.DiskFault.TheVariants.{Busy};
+    ghost use Rattle.exh_disk.specs.DiskFault.{told};
 
     /// A call of the system failed: want of memory is told apart.
     pub fn at(call: Call, error: io::Error) -> DiskFault
-        ensures { is_memory result ≡ is_out_of_memory (error_kind error) }
+        ensures { result ≡ told call error }
     {
         if error.kind() == ErrorKind::OutOfMemory {
             DiskFault::Memory
@@ -84,7 +85,10 @@ impl DiskFault {
     }
 
     /// The same, but for a kind of error by which the system says that another save has the file.
-    pub fn busy_at(busy: ErrorKind, call: Call, error: io::Error) -> DiskFault {
+    pub fn busy_at(busy: ErrorKind, call: Call, error: io::Error) -> DiskFault
+        ensures busy { error_kind error ≡ busy → result ≡ Busy }
+        ensures other { error_kind error ≢ busy → result ≡ told call error }
+    {
         if error.kind() == busy {
             DiskFault::Busy
         } else {

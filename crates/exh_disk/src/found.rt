@@ -41,8 +41,8 @@ pub struct Runner {
 }
 
 impl Found {
-    ghost use Rattle.std.specs.Prelude.{◌↔◌, IsTrue};
-    ghost use Rattle.exh_disk.specs.Found.{IsSame, IsUnchanged};
+    ghost use Rattle.std.specs.Prelude.{◌↔◌, ◌≢◌, IsTrue, bit_and};
+    ghost use Rattle.exh_disk.specs.Found.{IsClosedTo, IsOnly, IsSame, IsUnchanged};
 
     /// Whether both tell of one file.
     pub fn is_same(&self, other: &Found) -> bool
@@ -59,21 +59,31 @@ impl Found {
     }
 
     /// Whether these are of a regular file that has this name alone.
-    pub fn is_only(&self, named: &Found) -> bool {
+    pub fn is_only(&self, named: &Found) -> bool
+        ensures { IsTrue result ↔ IsOnly self.now named.now }
+    {
         self.kind == Kind::Regular && self.links == 1 && self.is_same(named)
     }
 
     /// Whether a folder's permissions surely keep the runner from making a file there.
-    pub fn is_closed_to(&self, runner: Runner) -> bool {
-        let needed = |bits: u32| self.mode >> bits & 0o3 != 0o3;
+    pub fn is_closed_to(&self, runner: Runner) -> bool
+        ensures { IsTrue result ↔ IsClosedTo self.now runner }
+    {
         if runner.user == 0 {
             false
         } else if runner.user == self.owner {
-            needed(6)
+            !self.lets(0o200, 0o100)
         } else if runner.group == self.group {
-            needed(3)
+            !self.lets(0o020, 0o010)
         } else {
-            needed(3) && needed(0)
+            !self.lets(0o020, 0o010) && !self.lets(0o002, 0o001)
         }
+    }
+
+    // Whether a mode has both bits.
+    fn lets(&self, write: u32, search: u32) -> bool
+        ensures { IsTrue result ↔ (bit_and self.now.mode write ≢ 0) × (bit_and self.now.mode search ≢ 0) }
+    {
+        self.mode & write != 0 && self.mode & search != 0
     }
 }

@@ -1,4 +1,4 @@
-ghost use Rattle.std.specs.Prelude.{◌≡◌};
+ghost use Rattle.std.specs.Prelude.{◌≡◌, IfOk, IsTrue};
 
 use crate::{Call, Disk, DiskFault};
 use std::alloc::Global;
@@ -13,7 +13,8 @@ pub fn leads_to<D: Disk>(
     named: &str,
     path: &str,
 ) -> Result<bool, DiskFault>
-    ensures { D.history disk.new ≡ D.history disk.old }
+    ensures leads { IfOk result (λ leads. IsTrue leads → D.leads named.now path.now) }
+    ensures crash { D.history disk.new ≡ D.history disk.old }
 {
     match disk.whole_path(alloc, named) {
         Ok(whole) => Ok(whole.as_str() == path),

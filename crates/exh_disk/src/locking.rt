@@ -1,4 +1,4 @@
-ghost use Rattle.std.specs.Prelude.{◌≡◌};
+ghost use Rattle.std.specs.Prelude.{◌≡◌, ℕ, IfOk, List, false};
 
 use crate::{Call, Disk, DiskFault};
 use std::io::ErrorKind;
@@ -7,7 +7,8 @@ use std::io::ErrorKind;
 ///
 /// `Busy`: another run has it. `System`: the system has no locks for it.
 pub fn hold<D: Disk>(disk: &mut D, opened: &D::Opened) -> Result<D::Held, DiskFault>
-    ensures { D.history disk.new ≡ D.history disk.old }
+    ensures stands { IfOk result (λ held. (path : List ℕ) → D.stands held path ≡ false) }
+    ensures crash { D.history disk.new ≡ D.history disk.old }
 {
     match disk.hold(opened) {
         Ok(held) => Ok(held),

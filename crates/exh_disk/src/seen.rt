@@ -1,9 +1,11 @@
-ghost use Rattle.std.specs.Prelude.{◌≡◌, ◌⊎◌, IsTrue, OnOk, string_bytes};
+ghost use Rattle.std.specs.Prelude.{◌≡◌, ◌⊎◌, ◌↔◌, IfErr, IfOk, IsTrue, OnOk, string_bytes};
+ghost use Rattle.std.specs.IoError.{error_kind};
 ghost use Rattle.std.specs.Option.{option_copied};
+ghost use Rattle.std.specs.declared.io.ErrorKind.TheVariants.{OutOfMemory};
 ghost use Rattle.exh_disk.specs.Found.{IsSame, IsUnchanged};
-ghost use Rattle.exh_disk.specs.Seen.{MayReplace};
+ghost use Rattle.exh_disk.specs.Seen.{IsAt, IsLocked, IsSeenAt, MayReplace};
 
-use crate::{Call, Disk, DiskFault, Found, Kind, hold, leads_to};
+use crate::{Call, Disk, DiskFault, Found, Kind, Lock, hold, leads_to};
 use std::alloc::Global;
 use std::io;
 use std::io::ErrorKind;
@@ -35,7 +37,9 @@ impl<O: Drop> Seen<O> {
         path: &str,
         opened: O,
     ) -> io::Result<Seen<O>>
-        ensures { D.history disk.new ≡ D.history disk.old }
+        ensures seen { IfOk result (IsSeenAt D.leads path.now opened) }
+        ensures err { IfErr result (λ error. error_kind error ≡ OutOfMemory) }
+        ensures crash { D.history disk.new ≡ D.history disk.old }
     {
         let about = match about_of(alloc, disk, path, &opened) {
             Err(error) if error.kind() == ErrorKind::OutOfMemory => return Err(error),
@@ -50,37 +54,47 @@ impl<O: Drop> Seen<O> {
     }
 
     /// The file itself, to be read.
-    pub fn opened(&self) -> &O {
+    pub fn opened(&self) -> &O
+        ensures { result.now ≡ self.now.opened }
+    {
         &self.opened
     }
 
-    /// Takes the lock of a regular file that was opened, which lasts as long as this, and answers whether the file is then
-    /// still at its path as it was.
+    /// Takes the lock of a regular file that was opened, which lasts until this is dropped too, and says whether the file
+    /// is then still at its path as it was.
     ///
     /// `Busy`: another run has the lock. `System`: the system doesn't say what is there, or has no locks.
-    pub fn lock<D: Disk<Opened = O>>(&self, alloc: Global, disk: &mut D) -> Result<bool, DiskFault>
-        ensures { D.history disk.new ≡ D.history disk.old }
+    pub fn lock<D: Disk<Opened = O>>(
+        &self,
+        alloc: Global,
+        disk: &mut D,
+    ) -> Result<Lock<D::Held>, DiskFault>
+        ensures ok { IfOk result (IsLocked D.stands self.now) }
+        ensures crash { D.history disk.new ≡ D.history disk.old }
     {
         let about = match &self.about {
             Ok(about) => about,
             Err(error) => return Err(DiskFault::at(Call::Ask, *error)),
         };
         if about.found.kind != Kind::Regular {
-            return Ok(true);
+            return Ok(Lock::Needless);
         }
         let mut held = hold(disk, &self.opened)?;
         if !leads_to(alloc, disk, &self.named, &about.path)? {
-            return Ok(false);
+            return Ok(Lock::Gone);
         }
         match disk.confirm_old(&mut held, &about.path, &about.found) {
-            Ok(is_there) => Ok(is_there),
-            Err(error) if error.kind() == ErrorKind::NotFound => Ok(false),
+            Ok(true) => Ok(Lock::Taken(held)),
+            Ok(false) => Ok(Lock::Gone),
+            Err(error) if error.kind() == ErrorKind::NotFound => Ok(Lock::Gone),
             Err(error) => Err(DiskFault::at(Call::Ask, error)),
         }
     }
 
     /// Whether what is to be saved to is where the file was opened, or is this file.
-    pub fn is_at(&self, named: &str, path: &str, there: &Found) -> bool {
+    pub fn is_at(&self, named: &str, path: &str, there: &Found) -> bool
+        ensures { IsTrue result ↔ IsAt self.now named.now path.now there.now }
+    {
         let is_named = self.named.as_str() == named;
         match &self.about {
             Ok(about) => { is_named || about.path.as_str() == path || about.found.is_same(there) }
@@ -136,7 +150,8 @@ fn about_of<D: Disk>(
     path: &str,
     opened: &D::Opened,
 ) -> io::Result<About>
-    ensures { D.history disk.new ≡ D.history disk.old }
+    ensures whole { IfOk result (λ about. D.leads path.now (string_bytes about.path)) }
+    ensures crash { D.history disk.new ≡ D.history disk.old }
 {
     let found = disk.ask_opened(opened)?;
     let path = disk.whole_path(alloc, path)?;

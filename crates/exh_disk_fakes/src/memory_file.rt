@@ -21,10 +21,11 @@ pub struct MemoryFile {
     pub bytes: Vec<u8>,
 }
 
-/// The lock of an open file, and whether that was at its path at the last look.
+/// The lock of an open file, the path at which that was looked for last, and whether it was there.
 #[derive(Drop)]
 pub struct MemoryHeld {
     pub opened: MemoryOpened,
+    pub path: String,
     pub stands: bool,
 }
 

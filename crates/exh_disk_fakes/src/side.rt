@@ -1,5 +1,5 @@
 //! What one saver sees of a file system in memory.
-ghost use Rattle.std.specs.Prelude.{◌≡◌, None, Some, [], OnOk, OnErr};
+ghost use Rattle.std.specs.Prelude.{◌≡◌, ◌&&◌, None, Some, [], OnOk, OnErr, bytes_eq, string_bytes};
 ghost use Rattle.exh_disk.specs.History.{placed};
 ghost use Rattle.exh_disk_fakes.specs.Past.{history_at, known};
 
@@ -123,7 +123,7 @@ impl<B: Between + Drop> Disk for Side<'_, B> {
 
     ghost holds = { λ file. Some file.bytes.items };
 
-    ghost stands = { λ held. held.stands };
+    ghost stands = { λ held path. held.stands && bytes_eq (string_bytes held.path) path };
 
     ghost history = { λ side. history_at (known B.comes side.disk.now.past) };
 
@@ -176,6 +176,7 @@ impl<B: Between + Drop> Disk for Side<'_, B> {
         self.disk.lock(opened)?;
         Ok(MemoryHeld {
             opened: opened.again()?,
+            path: String::new(self.disk.alloc),
             stands: false,
         })
     }
@@ -183,6 +184,7 @@ impl<B: Between + Drop> Disk for Side<'_, B> {
     fn confirm_old(&mut self, held: &mut MemoryHeld, path: &str, was: &Found) -> io::Result<bool> {
         let found = self.found(path)?;
         let is_there = self.disk.node(held.opened.node)?.about.is_unchanged(&found);
+        held.path = String::from_str(self.disk.alloc, path)?;
         held.stands = is_there && was.is_unchanged(&found);
         Ok(held.stands)
     }

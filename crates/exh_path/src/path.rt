@@ -1,7 +1,7 @@
 ghost use Rattle.std.specs.Prelude.{◌≡◌, ◌⊎◌, ℕ, IfOk, IfSome, List};
 ghost use Rattle.exh_disk.specs.declared.stage.Stage.TheVariants.{Settled};
 ghost use Rattle.std.specs.Io.KnownBytes.{Appends};
-ghost use Rattle.exh_saving.specs.Saved.{IsSaved, SavesAt};
+ghost use Rattle.exh_saving.specs.Saved.{IsSaved, IsWhereOpened, SavesAt};
 ghost use Rattle.exh_file.specs.Saved.{IsLeft, written_file};
 ghost use Rattle.exh_format.specs.FileVersion.{written_format};
 ghost use Rattle.exh_format.specs.PageFile.{file_bytes};
@@ -50,9 +50,11 @@ pub fn save_at<D: Disk, P: Pages + Drop, T: Terminal>(
     ensures settled { IfOk result.0 (λ saved. IfSome saved.file (λ file. D.stage file ≡ Settled)) }
     ensures wards { IsLeft opened result.1 }
     // At each moment of the call a crash leaves at the path, without links, what it could leave there before, or these wards.
+    // Where the path is named as a file was that was opened, it is without links the one at which that was.
     ensures crash { (whole : List ℕ) × ((whole ≡ path.now) ⊎ D.leads path.now whole)
         × SavesAt (D.history disk.old whole) (D.history disk.new whole)
-        (IsSaved D.unwritten (file_bytes written_format (written_file opened))) result.0 }
+        (IsSaved D.unwritten (file_bytes written_format (written_file opened))) result.0
+        × IfOk result.0 (λ saved. IfSome saved.file (λ _. IfSome seen.entry (λ seen. IsWhereOpened seen.now path.now whole))) }
 {
     let wards = Wards { opened };
     let (saved, wards) = save(
@@ -66,7 +68,8 @@ pub fn save_at<D: Disk, P: Pages + Drop, T: Terminal>(
 }
 
 fn target_at<'t, O: Drop>(path: &'t str, seen: Option<&'t Seen<O>>) -> Target<'t, O>
-    ensures { result.path.now ≡ path.now }
+    ensures path { result.path.now ≡ path.now }
+    ensures seen { result.seen ≡ seen.entry }
 {
     Target {
         path,

@@ -1,4 +1,7 @@
-ghost use Rattle.std.specs.Prelude.{◌≡◌, ⊤, None};
+ghost use Rattle.std.specs.Prelude.{◌≡◌, ◌&&◌, ⊤, IfErr, IfOk, None, bytes_eq, string_bytes};
+ghost use Rattle.std.specs.IoError.{error_kind};
+ghost use Rattle.std.specs.declared.io.ErrorKind.TheVariants.{OutOfMemory};
+ghost use Rattle.exh_disk.specs.Seen.{IsSeenAt};
 
 use crate::found::found_of;
 use crate::opening::{open_above, open_with};
@@ -22,10 +25,11 @@ pub struct SystemFile {
     stage: Stage,
 }
 
-/// The lock of a file of the system, and whether that was at its path at the last look.
+/// The lock of a file of the system, the path at which that was looked for last, and whether it was there.
 #[derive(Drop)]
 pub struct SystemHeld {
     file: File,
+    path: String,
     stands: bool,
 }
 
@@ -40,7 +44,10 @@ impl<'r> SystemDisk<'r> {
     /// A file that was opened at a path and is held open, so that a save sees whether it is still there as it was.
     ///
     /// An error: memory ran out.
-    pub fn seen(&mut self, path: &str, opened: File) -> io::Result<OpenedFile> {
+    pub fn seen(&mut self, path: &str, opened: File) -> io::Result<OpenedFile>
+        ensures seen { IfOk result (IsSeenAt (λ _ _. ⊤) path.now opened) }
+        ensures err { IfErr result (λ error. error_kind error ≡ OutOfMemory) }
+    {
         Seen::new(self.rt.alloc(), self, path, opened)
     }
 }
@@ -62,7 +69,7 @@ impl Disk for SystemDisk<'_> {
 
     ghost holds = { λ _. None };
 
-    ghost stands = { λ held. held.stands };
+    ghost stands = { λ held path. held.stands && bytes_eq (string_bytes held.path) path };
 
     ghost history = { λ _ _. None };
 
@@ -113,6 +120,7 @@ impl Disk for SystemDisk<'_> {
         let file = opened.try_clone()?;
         Ok(SystemHeld {
             file,
+            path: String::new(self.rt.alloc()),
             stands: false,
         })
     }
@@ -120,6 +128,7 @@ impl Disk for SystemDisk<'_> {
     fn confirm_old(&mut self, held: &mut SystemHeld, path: &str, was: &Found) -> io::Result<bool> {
         let named = found_of(&fs::symlink_metadata(self.rt, path)?);
         let is_there = found_of(&held.file.metadata()?).is_unchanged(&named);
+        held.path = String::from_str(self.rt.alloc(), path)?;
         held.stands = is_there && was.is_unchanged(&named);
         Ok(held.stands)
     }

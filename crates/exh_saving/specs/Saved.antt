@@ -1,9 +1,10 @@
 -- What a save leaves at its path, at each moment of it and once it has ended.
-use Rattle.std.specs.Prelude.{◌≡◌, ◌⊎◌, ℕ, ⊤, IfNone, IfOk, IfSome, List, None, OnErr, Option, Result, Some, string_bytes}
+use Rattle.std.specs.Prelude.{◌≡◌, ◌⊎◌, ℕ, ⊤, IfNone, IfOk, IfSome, IsOkAnd, List, None, OnErr, Option, Result, Some, string_bytes}
 use Rattle.std.specs.Io.KnownBytes.{Appends}
 use Rattle.std.specs.declared.io.Error.{Error}
 use Rattle.exh_disk.specs.History.{File, History, LeavesOldOrNew, LeavesOnly, Nothing, Standing, kept, placed}
 use Rattle.exh_disk.specs.declared.fault.DiskFault.{DiskFault}
+use Rattle.exh_disk.specs.declared.seen.Seen.{Seen}
 use Rattle.exh_saving.specs.declared.path.PathTo.{PathTo}
 use Rattle.exh_saving.specs.declared.path.PathTo.TheVariants.{Device, File as Path}
 use Rattle.exh_saving.specs.declared.saving.Saved.{Saved}
@@ -29,3 +30,7 @@ pub record SavesAt {F : Type 0} (old new : Option History) (IsNew : Standing →
   pub any_moment : LeavesOldOrNew old new IsNew
   pub refused : OnErr result (new ≡ old)
   pub settled : IfOk result (λ saved. IfSome saved.file (λ file. IfNone saved.folder (LeavesOnly new IsNew)))
+
+-- if a path is named as a file was that was opened, this path without links is that at which the file was
+abbrev pub IsWhereOpened : {O : Type 0} → Seen O → List ℕ → List ℕ → Type 0
+IsWhereOpened seen named path = string_bytes seen.named ≡ named → IsOkAnd seen.about (λ about. string_bytes about.path ≡ path)

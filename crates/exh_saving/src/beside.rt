@@ -1,10 +1,10 @@
 //! A save of a regular file: it is written beside its path, and renamed over it, or linked to it where nothing is there.
-ghost use Rattle.std.specs.Prelude.{◌≡◌, ◌≢◌, ◌⊎◌, IfOk, IsOk, OnErr, OnOk, string_bytes, true};
+ghost use Rattle.std.specs.Prelude.{◌≡◌, ◌≢◌, ◌⊎◌, IfOk, IfSome, IsOk, OnErr, OnOk, string_bytes, true};
 ghost use Rattle.std.specs.Io.KnownBytes.{Appends};
 ghost use Rattle.exh_disk.specs.declared.stage.Stage.TheVariants.{Confirmed, Empty, Placed, Settled, Unlinkable};
 ghost use Rattle.exh_disk.specs.History.{placed};
 ghost use Rattle.exh_disk.specs.Stage.{is_fillable, is_ours};
-ghost use Rattle.exh_saving.specs.Saved.{saved_history};
+ghost use Rattle.exh_saving.specs.Saved.{IsWhereOpened, saved_history};
 
 use crate::claiming::{claim, see_own};
 use crate::dressing::dress;
@@ -33,6 +33,7 @@ pub(crate) fn save_beside<D: Disk, S: Source, V: Watch>(
     ensures bytes { IfOk result.0 (λ saved. Appends D.unwritten (D.holds saved.0) (S.bytes source)) }
     ensures placed { IfOk result.0 (λ saved. D.history disk.new path.now ≡ saved_history (D.history disk.old path.now) (D.holds saved.0) saved.1) }
     ensures crash { OnErr result.0 (D.history disk.new path.now ≡ D.history disk.old path.now) }
+    ensures opened { OnOk result.0 (IfSome target.now.seen (λ seen. IsWhereOpened seen.now target.now.path.now path.now)) }
     ensures source { (result.1 ≡ source) ⊎ S.leaves source result.1 }
 {
     let mut old = match hold_old(disk, path, target) {
@@ -217,7 +218,7 @@ fn put_over<D: Disk>(
 ) -> Result<(), DiskFault>
     requires stage { D.stage file.old ≡ Confirmed }
     requires beside { name.now ≢ path.now }
-    requires held { D.stands old.now.held ≡ true }
+    requires held { D.stands old.now.held path.now ≡ true }
     ensures ok { OnOk result (D.stage file.new ≡ Placed) }
     ensures err { OnErr result (is_ours (D.stage file.new) ≡ true) }
     ensures bytes { D.holds file.new ≡ D.holds file.old }

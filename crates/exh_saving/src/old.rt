@@ -2,6 +2,7 @@
 ghost use Rattle.std.specs.Prelude.{◌≡◌, ◌≢◌, IfOk, IfSome, OnOk, true};
 ghost use Rattle.std.specs.Option.{option_map};
 ghost use Rattle.exh_disk.specs.Seen.{MayReplace};
+ghost use Rattle.exh_saving.specs.Saved.{IsWhereOpened};
 
 use crate::Target;
 use crate::names::{SUFFIXES, name_beside};
@@ -25,6 +26,7 @@ pub(crate) fn hold_old<D: Disk>(
     target: &Target<'_, D::Opened>,
 ) -> Result<Option<Old<D::Held>>, DiskFault>
     ensures ok { IfOk result (λ old. IfSome target.now.seen (λ seen. MayReplace seen.now target.now.path.now path.now (option_map (λ held. held.found) old))) }
+    ensures opened { OnOk result (IfSome target.now.seen (λ seen. IsWhereOpened seen.now target.now.path.now path.now)) }
     ensures crash { D.history disk.new ≡ D.history disk.old }
 {
     let Some(found) = old_at(disk, path, target)? else {
@@ -55,7 +57,8 @@ pub(crate) fn see_held<D: Disk>(
     named: &str,
     old: &mut Old<D::Held>,
 ) -> Result<(), DiskFault>
-    ensures stands { OnOk result (D.stands old.new.held ≡ true) }
+    ensures leads { OnOk result (D.leads named.now path.now) }
+    ensures stands { OnOk result (D.stands old.new.held path.now ≡ true) }
     ensures crash { D.history disk.new ≡ D.history disk.old }
 {
     if !leads_to(alloc, disk, named, path)? {

@@ -1,6 +1,6 @@
-ghost use Rattle.std.specs.Prelude.{◌≡◌, IfOk, IfSome};
+ghost use Rattle.std.specs.Prelude.{◌≡◌, IfOk, IfSome, OnOk};
 ghost use Rattle.exh_disk.specs.Seen.{MayReplace};
-ghost use Rattle.exh_saving.specs.Saved.{Reaches};
+ghost use Rattle.exh_saving.specs.Saved.{IsWhereOpened, Reaches};
 
 use crate::Target;
 use crate::names::file_name_of;
@@ -67,12 +67,14 @@ fn new_path<D: Disk>(alloc: Global, disk: &mut D, path: &str) -> Result<PathTo, 
 }
 
 /// The file at a path, which a save may replace; `None` where nothing is there.
+#[tactic(auto, using(crate::proofs::Opened::where_opened))]
 pub(crate) fn old_at<D: Disk>(
     disk: &mut D,
     path: &str,
     target: &Target<'_, D::Opened>,
 ) -> Result<Option<Found>, DiskFault>
     ensures ok { IfOk result (λ there. IfSome target.now.seen (λ seen. MayReplace seen.now target.now.path.now path.now there)) }
+    ensures opened { OnOk result (IfSome target.now.seen (λ seen. IsWhereOpened seen.now target.now.path.now path.now)) }
     ensures crash { D.history disk.new ≡ D.history disk.old }
 {
     let there = there_at(disk, path)?;

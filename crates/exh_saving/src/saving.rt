@@ -1,8 +1,8 @@
 //! A save.
-ghost use Rattle.std.specs.Prelude.{◌≡◌, ◌⊎◌, ℕ, IfOk, IfSome, List, None, OnErr};
+ghost use Rattle.std.specs.Prelude.{◌≡◌, ◌⊎◌, ℕ, IfOk, IfSome, List, None, OnErr, OnOk};
 ghost use Rattle.std.specs.Io.KnownBytes.{Appends};
 ghost use Rattle.exh_disk.specs.declared.stage.Stage.TheVariants.{Settled};
-ghost use Rattle.exh_saving.specs.Saved.{IsSaved, SavesAt};
+ghost use Rattle.exh_saving.specs.Saved.{IsSaved, IsWhereOpened, SavesAt};
 
 use crate::beside::save_beside;
 use crate::path::{PathTo, path_to};
@@ -40,8 +40,10 @@ pub fn save<D: Disk, S: Source, V: Watch>(
     ensures settled { IfOk result.0 (λ saved. IfSome saved.file (λ file. D.stage file ≡ Settled)) }
     ensures source { (result.1 ≡ source) ⊎ S.leaves source result.1 }
     // At each moment of the call a crash leaves at the path, without links, what it could leave there before, or the new file.
+    // Where the path is named as a file was that was opened, it is without links the one at which that was.
     ensures crash { (whole : List ℕ) × ((whole ≡ target.now.path.now) ⊎ D.leads target.now.path.now whole)
-        × SavesAt (D.history disk.old whole) (D.history disk.new whole) (IsSaved D.unwritten (S.bytes source)) result.0 }
+        × SavesAt (D.history disk.old whole) (D.history disk.new whole) (IsSaved D.unwritten (S.bytes source)) result.0
+        × IfOk result.0 (λ saved. IfSome saved.file (λ _. IfSome target.now.seen (λ seen. IsWhereOpened seen.now target.now.path.now whole))) }
 {
     match path_to(alloc, disk, target.path) {
         Ok(PathTo::File(path)) => save_file(alloc, disk, &path, target, source, watch),
@@ -61,6 +63,7 @@ fn save_file<D: Disk, S: Source, V: Watch>(
 ) -> (Result<Saved<D::File>, DiskFault>, S)
     ensures bytes { IfOk result.0 (λ saved. IfSome saved.file (λ file. Appends D.unwritten (D.holds file) (S.bytes source))) }
     ensures settled { IfOk result.0 (λ saved. IfSome saved.file (λ file. D.stage file ≡ Settled)) }
+    ensures opened { OnOk result.0 (IfSome target.now.seen (λ seen. IsWhereOpened seen.now target.now.path.now path.now)) }
     ensures source { (result.1 ≡ source) ⊎ S.leaves source result.1 }
     ensures crash { SavesAt (D.history disk.old path.now) (D.history disk.new path.now) (IsSaved D.unwritten (S.bytes source)) result.0 }
 {

@@ -9,6 +9,6 @@ returns-clause-wards g c = elim c.save-saved.ensures.source [
   | inr left ↦ left
 ]
 
--- the target is of the path
+-- the target is of the path, and of the opened file
 pub returns-clause-crash : goal.returns-clause-crash
-returns-clause-crash g c = rw c.target_at.ensures at c.save-saved.ensures.crash
+returns-clause-crash g c = rw (c.target_at.ensures.path, c.target_at.ensures.seen) at c.save-saved.ensures.crash

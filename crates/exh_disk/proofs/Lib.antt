@@ -1,0 +1,2 @@
+-- for the folder of a path
+pub mod Slashes
