@@ -8,7 +8,6 @@ use crate::last_line::{OUT_OF_MEMORY, UNOPENED, print_last};
 use crate::status::Status;
 use crate::stores::FileWards;
 use exh_file::{OpenFault, open};
-use exh_frames::MAKER;
 use exh_report::push_refusal;
 use exh_stream::Output;
 use exh_text::{push_refused, push_text};

@@ -1,4 +1,8 @@
 //! The opening of the page file of a path, and what is said of it.
+ghost use Rattle.std.specs.Prelude.{◌≡◌, IfErr, IfOk, IsOkAnd};
+ghost use Rattle.std.specs.Option.{option_copied};
+ghost use Rattle.exh_job.specs.Opening.{IsNamed, IsOpenedAt};
+ghost use Rattle.exh_job.specs.declared.status.Status.TheVariants.{Refused};
 
 use crate::open_run::open_file;
 use crate::said::{Reason, tell_reason, with_reason};
@@ -7,7 +11,7 @@ use crate::status::Status;
 use crate::stores::FileWards;
 use crate::watch::reading_meter;
 use exh_notes::ReasonReader;
-use exh_path::{DiskFault, OpenedFile, SystemDisk, open_above};
+use exh_path::{DiskFault, Lock, OpenedFile, SystemDisk, open_above};
 use exh_stream::{ClearingWriter, MeteredReader, Output};
 use std::cell::Cell;
 use std::io;
@@ -23,7 +27,10 @@ type Opening = (FileWards, OpenedFile);
 pub fn opened_at(
     rt: &HostRuntime,
     path: Option<&str>,
-) -> Result<(Option<FileWards>, Option<OpenedFile>), Status> {
+) -> Result<(Option<FileWards>, Option<OpenedFile>), Status>
+    ensures ok { IfOk result (λ opened. IsOpenedAt (option_copied path.entry) opened.0 opened.1) }
+    ensures err { IfErr result (λ status. status ≡ Refused) }
+{
     match path {
         Some(path) => {
             let (wards, seen) = open_at(rt, path)?;
@@ -34,7 +41,10 @@ pub fn opened_at(
 }
 
 /// The same of a path that is named.
-pub fn open_at(rt: &HostRuntime, path: &str) -> Result<Opening, Status> {
+pub fn open_at(rt: &HostRuntime, path: &str) -> Result<Opening, Status>
+    ensures ok { IfOk result (λ opening. IsNamed path.now opening.1) }
+    ensures err { IfErr result (λ status. status ≡ Refused) }
+{
     let reason = Cell::new(None);
     let seen = seen_at(rt, path, &reason)?;
     read_opened(rt, path, seen, &reason)
@@ -42,7 +52,10 @@ pub fn open_at(rt: &HostRuntime, path: &str) -> Result<Opening, Status> {
 
 /// The same of a file that is locked before it is read, so that no other run saves over it until this one is done. Where
 /// another run has the lock standard error says so.
-pub fn open_alone(rt: &HostRuntime, path: &str) -> Result<Opening, Status> {
+pub fn open_alone(rt: &HostRuntime, path: &str) -> Result<Opening, Status>
+    ensures ok { IfOk result (λ opening. IsNamed path.now opening.1) }
+    ensures err { IfErr result (λ status. status ≡ Refused) }
+{
     for _ in 0..TRIES {
         let reason = Cell::new(None);
         let seen = seen_at(rt, path, &reason)?;
@@ -54,10 +67,13 @@ pub fn open_alone(rt: &HostRuntime, path: &str) -> Result<Opening, Status> {
 }
 
 // Whether a file, if it is opened, is locked now, and still the one of its path.
-fn is_alone(rt: &HostRuntime, path: &str, seen: &io::Result<OpenedFile>) -> Result<bool, Status> {
+fn is_alone(rt: &HostRuntime, path: &str, seen: &io::Result<OpenedFile>) -> Result<bool, Status>
+    ensures err { IfErr result (λ status. status ≡ Refused) }
+{
     match seen {
         Ok(seen) => match seen.lock(rt.alloc(), &mut SystemDisk::new(rt)) {
-            Ok(is_alone) => Ok(is_alone),
+            Ok(Lock::Taken(_) | Lock::Needless) => Ok(true),
+            Ok(Lock::Gone) => Ok(false),
             Err(fault) => Err(refuse_save(rt, path, fault)),
         },
         Err(_) => Ok(true),
@@ -65,11 +81,10 @@ fn is_alone(rt: &HostRuntime, path: &str, seen: &io::Result<OpenedFile>) -> Resu
 }
 
 // Opens the file of a path, and asks what it is; or why it isn't opened, which becomes the reason.
-fn seen_at(
-    rt: &HostRuntime,
-    path: &str,
-    reason: &Reason,
-) -> Result<io::Result<OpenedFile>, Status> {
+fn seen_at(rt: &HostRuntime, path: &str, reason: &Reason) -> Result<io::Result<OpenedFile>, Status>
+    ensures ok { IfOk result (λ opened. IfOk opened (IsNamed path.now)) }
+    ensures err { IfErr result (λ status. status ≡ Refused) }
+{
     match with_reason(open_above(rt, path), reason) {
         Ok(file) => match SystemDisk::new(rt).seen(path, file) {
             Ok(seen) => Ok(Ok(seen)),
@@ -85,7 +100,10 @@ fn read_opened(
     path: &str,
     seen: io::Result<OpenedFile>,
     reason: &Reason,
-) -> Result<Opening, Status> {
+) -> Result<Opening, Status>
+    ensures ok { IfOk result (λ opening. IsOkAnd seen (λ was. opening.1 ≡ was)) }
+    ensures err { IfErr result (λ status. status ≡ Refused) }
+{
     let opened = match &seen {
         Ok(seen) => Ok(seen.opened()),
         Err(error) => Err(*error),

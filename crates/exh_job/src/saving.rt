@@ -1,4 +1,6 @@
 //! Where the wards that a run leaves are saved, and what standard error says of that.
+ghost use Rattle.std.specs.Prelude.{◌≡◌, ◌⊎◌};
+ghost use Rattle.exh_job.specs.declared.status.Status.TheVariants.{Done, Refused};
 
 use crate::job_path::JobPath;
 use crate::last_line::print_out_of_memory;
@@ -30,7 +32,9 @@ pub fn save_at_path(
     save: JobPath<'_>,
     seen: Option<&OpenedFile>,
     wards: FileWards,
-) -> Status {
+) -> Status
+    ensures { (result ≡ Done) ⊎ (result ≡ Refused) }
+{
     let path = save.path();
     if let Some(above) = above_limit(rt, path, &wards) {
         let _ = eprintln!(rt; "exhash: not saved to {path:?}: {above}");
@@ -52,7 +56,9 @@ pub fn save_at_path(
 }
 
 /// Says why a path isn't saved to, and gives the status with which the program ends.
-pub(crate) fn refuse_save(rt: &HostRuntime, path: &str, fault: DiskFault) -> Status {
+pub(crate) fn refuse_save(rt: &HostRuntime, path: &str, fault: DiskFault) -> Status
+    ensures { result ≡ Refused }
+{
     match fault {
         DiskFault::Memory => refuse_for_memory(rt),
         fault => {
@@ -63,7 +69,9 @@ pub(crate) fn refuse_save(rt: &HostRuntime, path: &str, fault: DiskFault) -> Sta
 }
 
 /// Says that memory ran out, and gives the status with which the program ends.
-pub(crate) fn refuse_for_memory(rt: &HostRuntime) -> Status {
+pub(crate) fn refuse_for_memory(rt: &HostRuntime) -> Status
+    ensures { result ≡ Refused }
+{
     let _ = print_out_of_memory(&mut Output::new(&mut io::writer(rt)));
     Status::Refused
 }

@@ -1,5 +1,7 @@
 //! The runs over the program's standard streams, and over files of the system.
+ghost use Rattle.std.specs.Prelude.{IfSome};
 ghost use Rattle.exh_job.specs.JobPath.{SavesAt};
+ghost use Rattle.exh_job.specs.Opening.{IsNamed};
 
 use crate::change_run::{change_over, tell_saved};
 use crate::file_blocks::{FileBlocks, open_regular};
@@ -53,7 +55,8 @@ pub fn change<'w>(
     call: &Call,
     save: Option<JobPath<'w>>,
 ) -> (Ending<'w>, Option<OpenedFile>)
-    ensures { SavesAt save.entry result.0 }
+    ensures saves { SavesAt save.entry result.0 }
+    ensures named { IfSome result.1 (IsNamed path.now) }
 {
     match open_alone(rt, path) {
         Ok((wards, seen)) => (answer_over(rt, wards, call, save), Some(seen)),

@@ -1,5 +1,7 @@
 //! The run of a load over the program's standard streams, and over the file of a path.
+ghost use Rattle.std.specs.Prelude.{IfSome};
 ghost use Rattle.exh_job.specs.JobPath.{SavesAt};
+ghost use Rattle.exh_job.specs.Opening.{IsNamed};
 
 use crate::file_watch::{pair_notes, pairs_meter};
 use crate::load_run::{load_ending, load_long_pairs, load_pairs};
@@ -21,7 +23,8 @@ pub fn load<'w>(
     way: LoadWay,
     save: Option<JobPath<'w>>,
 ) -> (Ending<'w>, Option<OpenedFile>)
-    ensures { SavesAt save.entry result.0 }
+    ensures saves { SavesAt save.entry result.0 }
+    ensures named { IfSome result.1 (IsNamed path.now) }
 {
     let from = match way {
         LoadWay::Short | LoadWay::Long => None,
