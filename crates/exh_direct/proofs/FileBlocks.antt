@@ -17,7 +17,12 @@ use Rattle.exh_format.specs.TableImage.{IsFileEntry, IsTableImage}
 use Rattle.exh_format.specs.FileTests.{IsWhole, block_at, bytes_from}
 use Rattle.exh_format.specs.PageFile.{IsPageFile, PageFile, header_block, page_block, pages_of, table_block, table_blocks, table_bytes}
 use Rattle.exh_format.specs.ReadingLemmas.{length-pages_of}
-use Rattle.exh_direct.specs.DirectAnswer.{block_of, page_place, table_place}
+use Rattle.exh_direct.specs.DirectAnswer.{page_place}
+use Rattle.exh_direct.specs.TableSearch.{table_place}
+
+-- the entries of one block of a table: as many as there is room for, in the last the others
+abbrev pub block_of : ℕ → List FileEntry → List FileEntry
+block_of number entries = take 254 (drop (254 * number) entries)
 
 -- a block stands at a place, whole
 pub record StandsAt (place : ℕ) (bytes block : List ℕ) : Type 0 where

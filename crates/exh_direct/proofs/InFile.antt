@@ -1,12 +1,13 @@
 -- What is answered of a key of a legal file: nothing but its map.
-use Rattle.std.proofs.Common.{◌≡◌, ℕ, zero, suc, ◌+◌, ◌*◌, ◌-◌, ◌<◌, ◌≤◌, ◌^◌, min, Bool, cond, List, [], ◌∷◌, ◌++◌, length, map, take, drop, get_or, slice_get, slice_index, inl, inr, Option, None, Some, Result, Ok, Err, refl, sym, ap, ap₂, ◌∙◌, subst, take-append-drop, arith}
+use Rattle.std.proofs.Common.{◌≡◌, ℕ, zero, suc, ◌+◌, ◌*◌, ◌<◌, ◌≤◌, ◌^◌, Bool, cond, List, [], ◌∷◌, ◌++◌, length, map, take, drop, get_or, slice_get, slice_index, inl, inr, Option, None, Some, Result, Ok, Err, refl, sym, ap, ◌∙◌, subst, take-append-drop, arith}
 use Rattle.std.specs.Prelude.{IfErr, IfOk, MatchResult}
+use Rattle.std.specs.List.{AllByRecursion}
 use Rattle.std.specs.FinMap.{empty, get}
 use Rattle.std.specs.Option.{option_to_list}
 use Rattle.std.specs.Io.KnownBytes.{Appends}
 use Rattle.std.proofs.KnownBytes.{Appends-trans}
-use Rattle.std.proofs.lemmas.Bool.{cases_lt, le-leb}
-use Rattle.std.proofs.lemmas.List.{drop-drop, drop-take, length-drop, length-take, length-take-le, take-take, take_all, get_or-take}
+use Rattle.std.proofs.lemmas.Bool.{cases_lt, false≢true, le-leb}
+use Rattle.std.proofs.lemmas.List.{length-drop, length-map, length-take, length-take-le, get_or-take}
 use Rattle.std.proofs.lemmas.Nat.{pow_below}
 use Rattle.std.proofs.lemmas.Option.{slice_get-get_or, slice_get_within}
 use Rattle.exh_keyer.specs.Pseudokey.{any_pseudokey}
@@ -23,7 +24,7 @@ use Rattle.exh_prefix.specs.Version.{Fits}
 use Rattle.exh_prefix.specs.LayoutLemmas.{fits_wider}
 use Rattle.exh_table.specs.declared.leaf.Leaf.{Leaf}
 use Rattle.exh_table.specs.Table.{TableMap}
-use Rattle.exh_table.specs.TableWalk.{walk_in}
+use Rattle.exh_table.specs.TableWalk.{walk_in, walk_of}
 use Rattle.exh_page.specs.declared.page.Page.{Page}
 use Rattle.exh_page.specs.declared.page.Page.TheVariants.{Live}
 use Rattle.exh_page.specs.declared.record.Record.{Record}
@@ -54,11 +55,15 @@ use Rattle.exh_format.specs.LegalFileLemmas.{count_of_wards, few_bits, table_nam
 use Rattle.exh_direct.specs.declared.direct_fault.DirectFault.{DirectFault}
 use Rattle.exh_direct.specs.declared.direct_fault.DirectFault.TheVariants.{File, Astray, Read, Memory}
 use Rattle.exh_direct.specs.declared.lead.Lead.TheVariants.{Home, Nowhere, To}
-use Rattle.exh_direct.specs.DirectAnswer.{FailsAtEnd, FailsBehind, FailsOnWay, Finds, FindsOnWay, IsPageIn, IsTable, IsTableFront, IsWay, Refuses, RefusesBehind, block_of, head_places, page_named, page_place, pages_in, place_in, pseudokey_in, table_place, ward_in}
+use Rattle.exh_direct.specs.declared.table_block.TableBlock.{TableBlock}
+use Rattle.exh_direct.specs.DirectAnswer.{FailsAtEnd, FailsOnWay, Finds, FindsOnWay, IsPageIn, IsWay, NamesPage, Refuses, RefusesBehind, page_place, pages_in, place_in, pseudokey_in, ward_in}
+use Rattle.exh_direct.specs.TableSearch.{AreBlocksOf, FailsBehind, IsBlockOf, IsEntryAt, entries_in, numbers_of, places_in, table_place}
 use Rattle.exh_direct.specs.KnownBlocks.{BlockFails, IsHeaderAt}
 use Rattle.exh_direct.specs.DirectLaws.{FindsInFile, IsOtherFault, map_in}
 use Rattle.exh_direct.specs.Way.{lead_of, lead_right}
-use Rattle.exh_direct.proofs.FileBlocks.{StandsAt, block_image, header_is, header_stands, page_image, page_stands, table_stands}
+use Rattle.exh_direct.proofs.Searches.{all_at, places_by_number}
+use Rattle.exh_direct.proofs.Told.{walk_is}
+use Rattle.exh_direct.proofs.FileBlocks.{StandsAt, block_image, block_of, header_is, header_stands, page_image, page_stands, table_stands}
 
 -- ---- no fault where all tests are passed
 
@@ -79,29 +84,32 @@ bytes_of_block place bytes small =
 
 -- ---- entries by their blocks
 
-same_from_blocks : (blocks : ℕ) (one other : List FileEntry) → length one ≤ 254 * blocks → ((number : ℕ) → number < blocks → block_of number one ≡ block_of number other) → one ≡ take (254 * blocks) other
-same_from_blocks zero [] other few same = refl
-same_from_blocks zero (item ∷ one) other few same = absurd (omega (arith, few))
-same_from_blocks (suc blocks) one other few same =
-    let later : (number : ℕ) (entries : List FileEntry) → block_of number (drop 254 entries) ≡ block_of (suc number) entries = λ number entries.
-    (let next : 254 + 254 * number ≡ 254 * suc number = omega arith in ap (take 254) (drop-drop (254 * number) 254 entries ∙ ap (λ (n : ℕ). drop n entries) next)) in
-    let rest = same_from_blocks blocks (drop 254 one) (drop 254 other) (omega (arith, length-drop 254 one, few)) (λ number less. later number one ∙ same (suc number) (omega (arith, less)) ∙ sym (later number other)) in
-    let all = take (254 * suc blocks) other in
-    let more : 254 * suc blocks ≡ 254 + 254 * blocks = omega arith in
-    let front : take 254 all ≡ take 254 one = take-take 254 (254 * suc blocks) other (omega arith) ∙ sym (same 0 (omega arith)) in
-    let back : drop 254 all ≡ drop 254 one = ap (λ (n : ℕ). drop 254 (take n other)) more ∙ drop-take 254 (254 * blocks) other ∙ sym rest in
-    let parts : take 254 all ++ drop 254 all ≡ take 254 one ++ drop 254 one = ap₂ (λ (a b : List FileEntry). a ++ b) front back in
-    sym (take-append-drop 254 one) ∙ sym parts ∙ take-append-drop 254 all
+slice_take : {X : Type 0} (n : ℕ) (xs : List X) (i : ℕ) (x : X) → slice_get (take n xs) i ≡ Some x → slice_get xs i ≡ Some x
+slice_take zero xs i x is = cc
+slice_take (suc n) [] i x is = is
+slice_take (suc n) (y ∷ xs) zero x is = is
+slice_take (suc n) (y ∷ xs) (suc i) x is = slice_take n xs i x is
 
--- ---- prefixes of the first entries, and of the others
+slice_drop : {X : Type 0} (n : ℕ) (xs : List X) (i : ℕ) → slice_get (drop n xs) i ≡ slice_get xs (n + i)
+slice_drop zero xs i = let same : i ≡ 0 + i = omega arith in ap (slice_get xs) same
+slice_drop (suc n) [] i = refl
+slice_drop (suc n) (y ∷ xs) i = slice_drop n xs i ∙ (let same : suc (n + i) ≡ suc n + i = omega arith in ap (slice_get (y ∷ xs)) same)
 
--- behind a front that ends where a block begins
-rising_block : (number : ℕ) (entries : List FileEntry) → AreRising (prefixes_of entries) → AreRising (option_to_list (last_prefix None (take (254 * number) entries)) ++ prefixes_of (block_of number entries))
+slice_of_block : (number : ℕ) (entries : List FileEntry) (at : ℕ) (item : FileEntry) → slice_get (block_of number entries) at ≡ Some item → slice_get entries (254 * number + at) ≡ Some item
+slice_of_block number entries at item is = sym (slice_drop (254 * number) entries at) ∙ slice_take 254 (drop (254 * number) entries) at item is
+
+-- ---- prefixes of one block
+
+rising_alone : (before : Option (List Bool)) (entries : List FileEntry) → AreRising (option_to_list before ++ prefixes_of entries) → AreRising (prefixes_of entries)
+rising_alone None entries rising = rising
+rising_alone (Some prefix) entries rising = rising.1
+
+rising_block : (number : ℕ) (entries : List FileEntry) → AreRising (prefixes_of entries) → AreRising (prefixes_of (block_of number entries))
 rising_block number entries rising =
     let front = take (254 * number) entries in
     let back = drop (254 * number) entries in
     let behind = rising_back None front back (subst (λ (all : List FileEntry). AreRising (prefixes_of all)) (sym (take-append-drop (254 * number) entries)) rising) in
-    rising_front (last_prefix None front) (take 254 back) (drop 254 back) (subst (λ (all : List FileEntry). AreRising (option_to_list (last_prefix None front) ++ prefixes_of all)) (sym (take-append-drop 254 back)) behind)
+    rising_front None (take 254 back) (drop 254 back) (subst (λ (all : List FileEntry). AreRising (prefixes_of all)) (sym (take-append-drop 254 back)) (rising_alone (last_prefix None front) back behind))
 
 -- ---- a legal file
 
@@ -156,41 +164,36 @@ module _ (laws : Laws) (known_version : KnownVersion) (file : PageFile) (bytes :
   image_of_block : (number : ℕ) → IsTableImage version.images (block_of number file.entries) (table_block version.images (block_of number file.entries))
   image_of_block number = block_image version fits laws.page_blocks laws.header_blocks laws.table_blocks file bytes legal.is number
 
-  same_block : (blocks : ℕ) (entries : List FileEntry) → IsTableFront version (Some bytes) file.header blocks entries → blocks ≤ table_blocks file.header.entry_count → (number : ℕ) → number < blocks → block_of number entries ≡ block_of number file.entries
-  same_block blocks entries front few number less =
-      let stands = table_at number (omega (arith, less, few)) in
-      let read = front.each number less in
-      let block : read.0 ≡ table_block version.images (block_of number file.entries) = read.1.1 ∙ stands.is in
-      laws.one_table version.images fits.images (table_block version.images (block_of number file.entries)) (block_of number entries) (block_of number file.entries)
-      (subst (IsTableImage version.images (block_of number entries)) block read.2) (image_of_block number)
+  same_block : (block : TableBlock) → IsBlockOf version (Some bytes) file.header block → block.entries.items ≡ block_of block.number file.entries
+  same_block block read =
+      let number = block.number in
+      let stands = table_at number read.within in
+      let is : read.is.0 ≡ table_block version.images (block_of number file.entries) = read.is.1.1 ∙ stands.is in
+      laws.one_table version.images fits.images (table_block version.images (block_of number file.entries)) block.entries.items (block_of number file.entries)
+      (subst (IsTableImage version.images block.entries.items) is read.is.2) (image_of_block number)
 
-  same_front : (blocks : ℕ) (entries : List FileEntry) → IsTableFront version (Some bytes) file.header blocks entries → blocks ≤ table_blocks file.header.entry_count → entries ≡ take (254 * blocks) file.entries
-  same_front blocks entries front few = same_from_blocks blocks entries file.entries (omega (arith, front.count)) (same_block blocks entries front few)
+  -- an entry that was read is the file's of its place
+  same_entry : (blocks : List TableBlock) → AreBlocksOf version (Some bytes) file.header blocks → (place : ℕ) (item : FileEntry) → IsEntryAt blocks place item → slice_get file.entries place ≡ Some item
+  same_entry blocks are place item entry =
+      let block = entry.block in
+      let same = same_block block (all_at (IsBlockOf version (Some bytes) file.header) blocks entry.index block are.each entry.read) in
+      ap (slice_get file.entries) entry.is ∙ slice_of_block block.number file.entries entry.at item (ap (λ (items : List FileEntry). slice_get items entry.at) (sym same) ∙ entry.there)
 
-  same_table : (entries : List FileEntry) → IsTable version (Some bytes) file.header entries → entries ≡ file.entries
-  same_table entries table =
-      same_front (table_blocks file.header.entry_count) entries table (omega arith)
-      ∙ take_all (254 * table_blocks file.header.entry_count) file.entries (let count = legal.is.valid.count in omega (arith, count))
-
-  no_table_fault : (fault : DirectFault) → FailsBehind version (Some bytes) file.header fault → IsOtherFault fault
-  no_table_fault fault behind =
-      let number = behind.blocks in
+  no_table_fault : (blocks : List TableBlock) (number : ℕ) (fault : DirectFault) → FailsBehind version (Some bytes) file.header fault blocks number → IsOtherFault fault
+  no_table_fault blocks number fault behind =
       let entries = block_of number file.entries in
-      let count = min 254 (file.header.entry_count - 254 * number) in
-      let before = last_prefix None behind.entries in
-      let stands = table_at number behind.fewer in
-      let is_front : behind.entries ≡ take (254 * number) file.entries = same_front number behind.entries behind.front (omega (arith, behind.fewer)) in
+      let count = entries_in file.header number in
+      let place = table_place file.header + number in
+      let stands = table_at number behind.within in
       let all : length entries ≡ count = (let full = legal.is.valid.count in omega (arith, length-take 254 (drop (254 * number) file.entries), length-drop (254 * number) file.entries, full)) in
-      let rising = subst (λ (front : List FileEntry). AreRising (option_to_list (last_prefix None front) ++ prefixes_of entries)) (sym is_front) (rising_block number file.entries legal.is.valid.rising) in
-      let of_table : IsOfTable version.images count before entries (block_at (table_place file.header + number) bytes) = record {
+      let of_table : IsOfTable version.images count None entries (block_at place bytes) = record {
         image = subst (IsTableImage version.images entries) (sym stands.is) (image_of_block number);
         all = all;
-        rising = rising;
+        rising = rising_block number file.entries legal.is.valid.rising;
       } in
-      let passed = (laws.tables_pass version.images fits.images count before (block_at (table_place file.header + number) bytes)
-      (length-take-le 4096 (bytes_from (table_place file.header + number) bytes) stands.whole) (bytes_of_block (table_place file.header + number) bytes small) (omega arith)).0 (entries, of_table) in
-      no_fault (TableFails version.images (table_place file.header + number) count before) bytes (table_place file.header + number) fault stands.whole
-      (λ (fault : FileFault). λ (named : TableFails version.images (table_place file.header + number) count before (block_at (table_place file.header + number) bytes) fault). none_first _ _ named.1.0 named.1.1 passed) behind.fails
+      let passed = (laws.tables_pass version.images fits.images count None (block_at place bytes) (length-take-le 4096 (bytes_from place bytes) stands.whole) (bytes_of_block place bytes small) (omega arith)).0 (entries, of_table) in
+      no_fault (TableFails version.images place count None) bytes place fault stands.whole
+      (λ (fault : FileFault). λ (named : TableFails version.images place count None (block_at place bytes) fault). none_first _ _ named.1.0 named.1.1 passed) behind.fails
 
   -- ---- the page of a key
 
@@ -251,7 +254,7 @@ module _ (laws : Laws) (known_version : KnownVersion) (file : PageFile) (bytes :
       pub records : List Record
       pub at : IsAt own_pages number (Live prefix right records)
       pub begins : Begins prefix k
-      pub named : page_named file.header k file.entries ≡ number
+      pub named : (walk_of (table_naming file.entries w) bits k).page ≡ number
 
     has_home : HasHome
     has_home =
@@ -266,6 +269,12 @@ module _ (laws : Laws) (known_version : KnownVersion) (file : PageFile) (bytes :
           begins = names.name.begins;
           named = ap (λ (leaf : Leaf). leaf.page) ((λ i. walk_in (sym table_is i) (sym ward_prefix_is i) k) ∙ names.walk);
         }
+
+    -- the page that the walk over some blocks comes to
+    page_is : (old new : Option (List ℕ)) (page : ℕ) → NamesPage version (Some bytes) file.header k old new page → page ≡ (walk_of (table_naming file.entries w) bits k).page
+    page_is old new page names =
+        names.is ∙ ap (λ (leaf : Leaf). leaf.page)
+        (walk_is names.blocks file.header file.entries legal.is.valid.rising legal.is.valid.count (same_entry names.blocks names.are) k (omega (arith, few_bits_there)) names.leaf names.ends)
 
     module _ (home : HasHome) where
       abbrev own : Page
@@ -333,7 +342,8 @@ module _ (laws : Laws) (known_version : KnownVersion) (file : PageFile) (bytes :
       no_end_fault : (whole number : ℕ) (fault : DirectFault) → number ≡ home.number → FailsAtEnd version (Some bytes) file.header key whole [] number fault → IsOtherFault fault
       no_end_fault whole number (File fault) here fails =
           no_page_fault (File fault) (subst (λ (n : ℕ). BlockFails (PageFails version.images pseudo (page_place file.header w n)) (Some bytes) (page_place file.header w n) (File fault)) here fails.1)
-      no_end_fault whole number Astray here (inl none) = absurd (omega (arith, none.0, none.1))
+      no_end_fault whole number Astray here (inl (inl passed)) = absurd (false≢true passed)
+      no_end_fault whole number Astray here (inl (inr none)) = absurd (omega (arith, none.0, none.1))
       no_end_fault whole number Astray here (inr (inl outside)) = absurd (omega (arith, outside, within, here))
       no_end_fault whole number Astray here (inr (inr (page, there, nowhere))) =
           let is = same_page page (subst (λ (n : ℕ). IsPageIn version (Some bytes) file.header key n page) here there) in
@@ -342,9 +352,9 @@ module _ (laws : Laws) (known_version : KnownVersion) (file : PageFile) (bytes :
       no_end_fault whole number Read here fails = tt
       no_end_fault whole number Memory here fails = tt
 
-      no_way_fault : (whole : ℕ) (old new : Option (List ℕ)) (fault : DirectFault) → FailsOnWay version (Some bytes) file.header key whole (page_named file.header k file.entries) old new fault → IsOtherFault fault
-      no_way_fault whole old new fault fails =
-          let end = stays _ fails.way fails.number home.named fails.leads in
+      no_way_fault : (whole first : ℕ) (old new : Option (List ℕ)) (fault : DirectFault) → first ≡ home.number → FailsOnWay version (Some bytes) file.header key whole first old new fault → IsOtherFault fault
+      no_way_fault whole first old new fault named fails =
+          let end = stays first fails.way fails.number named fails.leads in
           no_end_fault whole fails.number fault end.is (subst (λ (way : List ℕ). FailsAtEnd version (Some bytes) file.header key whole way fails.number fault) end.none fails.fails)
 
       -- ---- its value
@@ -357,39 +367,48 @@ module _ (laws : Laws) (known_version : KnownVersion) (file : PageFile) (bytes :
           sym (get_in_ward file.header.settings.cap pseudo bits w file.wards own_pages key all_legal (count_of_wards file (known_version, legal.is.valid)) ward_there legal_pages.each ward_begins
           ∙ get-map_of file.header.settings.cap pseudo (ward_prefix bits w) own_pages home.number own key legal_pages home.at home.begins)
 
-      found_in_file : (whole : ℕ) (old between new : Option (List ℕ)) (value : Option (List ℕ)) → Appends old between (head_places file.header) → FindsOnWay version (Some bytes) file.header key whole (page_named file.header k file.entries) between new value → FindsInFile file key old new value
-      found_in_file whole old between new value heads found =
-          let end = stays _ found.way found.number home.named found.leads in
+      found_in_file : (whole first : ℕ) (old header between new : Option (List ℕ)) (value : Option (List ℕ)) → first ≡ home.number → Appends old header (0 ∷ []) → NamesPage version (Some bytes) file.header k header between first
+          → FindsOnWay version (Some bytes) file.header key whole first between new value → FindsInFile file key old new value
+      found_in_file whole first old header between new value named head names found =
+          let end = stays first found.way found.number named found.leads in
           let page = same_page found.page (subst (λ (n : ℕ). IsPageIn version (Some bytes) file.header key n found.page) end.is found.there) in
           let places : map (place_in file.header key) (found.way ++ found.number ∷ []) ≡ own_place ∷ [] = (λ i. map (place_in file.header key) (end.none i ++ end.is i ∷ [])) in
+          let numbers = numbers_of names.blocks in
+          let tables : places_in file.header names.blocks ≡ map (λ (number : ℕ). table_place file.header + number) numbers = places_by_number file.header names.blocks in
           record {
             is = found.is ∙ ap (λ (page : Page). value_at (k, key) (records_of page)) page ∙ value_is;
+            numbers = numbers;
+            within = all_within names.blocks names.are.each;
+            once = names.are.once;
+            few = omega (arith, names.few, length-map names.blocks (λ (block : TableBlock). block.number));
             ward = w;
             number = home.number;
-            reads = Appends-trans old between new (head_places file.header) (own_place ∷ []) heads (subst (Appends between new) places found.reads);
+            reads = Appends-trans old header new (0 ∷ []) _ head
+                (Appends-trans header between new _ (own_place ∷ []) (subst (Appends header between) tables names.reads) (subst (Appends between new) places found.reads));
           }
+        where
+          all_within : (blocks : List TableBlock) → AllByRecursion (IsBlockOf version (Some bytes) file.header) blocks → AllByRecursion (λ (number : ℕ). number < table_blocks file.header.entry_count) (numbers_of blocks)
+          all_within [] all = tt
+          all_within (block ∷ blocks) all = (all.0.within, all_within blocks all.1)
 
     -- ---- the answer
 
-    pub answers : (whole : ℕ) (old between new : Option (List ℕ)) (value : Option (List ℕ)) (other : Header) (entries : List FileEntry) → IsHeaderAt version (Some bytes) other → IsTable version (Some bytes) other entries
-        → Appends old between (head_places other) → FindsOnWay version (Some bytes) other key whole (page_named other (pseudokey_in other key) entries) between new value → FindsInFile file key old new value
-    answers whole old between new value other entries head table heads found =
-        let same = same_header other head in
-        let all = same_table entries (subst (λ (header : Header). IsTable version (Some bytes) header entries) same table) in
-        found_in_file has_home whole old between new value
-        (subst (λ (header : Header). Appends old between (head_places header)) same heads)
-        (subst (λ (entries : List FileEntry). FindsOnWay version (Some bytes) file.header key whole (page_named file.header k entries) between new value) all
-        (subst (λ (header : Header). FindsOnWay version (Some bytes) header key whole (page_named header (pseudokey_in header key) entries) between new value) same found))
+    pub answers : (whole first : ℕ) (old head between new : Option (List ℕ)) (value : Option (List ℕ)) (other : Header) → IsHeaderAt version (Some bytes) other → Appends old head (0 ∷ [])
+        → NamesPage version (Some bytes) other (pseudokey_in other key) head between first → FindsOnWay version (Some bytes) other key whole first between new value → FindsInFile file key old new value
+    answers whole first old head between new value other header heads names found =
+        let same = same_header other header in
+        let named = subst (λ (header : Header). NamesPage version (Some bytes) header (pseudokey_in header key) head between first) same names in
+        found_in_file has_home whole first old head between new value (page_is head between first named ∙ has_home.named) heads named
+        (subst (λ (header : Header). FindsOnWay version (Some bytes) header key whole first between new value) same found)
 
     pub no_refusal_behind : (whole : ℕ) (old new : Option (List ℕ)) (fault : DirectFault) (other : Header) → RefusesBehind version (Some bytes) whole key old new fault other → IsOtherFault fault
-    no_refusal_behind whole old new fault other (head, inl behind) =
-        no_table_fault fault (subst (λ (header : Header). FailsBehind version (Some bytes) header fault) (same_header other head) behind.0)
-    no_refusal_behind whole old new fault other (head, inr (entries, table, between, heads, way)) =
-        let same = same_header other head in
-        let all = same_table entries (subst (λ (header : Header). IsTable version (Some bytes) header entries) same table) in
-        no_way_fault has_home whole between new fault
-        (subst (λ (entries : List FileEntry). FailsOnWay version (Some bytes) file.header key whole (page_named file.header k entries) between new fault) all
-        (subst (λ (header : Header). FailsOnWay version (Some bytes) header key whole (page_named header (pseudokey_in header key) entries) between new fault) same way))
+    no_refusal_behind whole old new fault other (header, head, heads, inl fails) =
+        no_table_fault fails.more fails.number fault (subst (λ (header : Header). FailsBehind version (Some bytes) header fault fails.more fails.number) (same_header other header) fails.behind)
+    no_refusal_behind whole old new fault other (header, head, heads, inr (first, between, names, way)) =
+        let same = same_header other header in
+        let named = subst (λ (header : Header). NamesPage version (Some bytes) header (pseudokey_in header key) head between first) same names in
+        no_way_fault has_home whole first between new fault (page_is head between first named ∙ has_home.named)
+        (subst (λ (header : Header). FailsOnWay version (Some bytes) header key whole first between new fault) same way)
 
 -- ---- the version that the bytes say
 
@@ -413,7 +432,7 @@ module _ (laws : Laws) (file : PageFile) (bytes : List ℕ) (small : AreBytes by
 
   pub finds_in_file : (whole : ℕ) (old new : Option (List ℕ)) (key : List ℕ) (value : Option (List ℕ)) → Finds (Some bytes) whole key old new value → FindsInFile file key old new value
   finds_in_file whole old new key value finds =
-      answers laws finds.version file bytes small (legal_in finds.version finds.header finds.head) key whole old finds.between new value finds.header finds.entries finds.head finds.table finds.heads finds.found
+      answers laws finds.version file bytes small (legal_in finds.version finds.header finds.head) key whole finds.page old finds.first finds.between new value finds.header finds.head finds.reads finds.names finds.found
 
   pub no_refusal : (whole : ℕ) (old new : Option (List ℕ)) (key : List ℕ) (fault : DirectFault) → Refuses (Some bytes) whole key old new fault → IsOtherFault fault
   no_refusal whole old new key fault (inl refused) = no_header_fault fault refused.0

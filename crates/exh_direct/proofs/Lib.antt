@@ -1,7 +1,10 @@
-pub mod ReadPlaces
+pub mod Once
 pub mod BlockFaults
 pub mod Walks
 pub mod Tables
+pub mod Searches
+pub mod Told
 pub mod Ways
+pub mod ReadOnce
 pub mod FileBlocks
 pub mod InFile

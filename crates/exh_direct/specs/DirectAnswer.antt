@@ -1,80 +1,47 @@
 -- What is answered of a key by the blocks on its way, in each version: its value, or the first fault.
-use Rattle.std.specs.Prelude.{◌≡◌, ⊤, ◌⊎◌, ℕ, ◌+◌, ◌-◌, ◌*◌, ◌<◌, ◌≤◌, min, List, [], ◌∷◌, ◌++◌, Option, None, length, map, take, drop, slice_index}
-use Rattle.std.specs.List.{range_with_len, sum}
+use Rattle.std.specs.Prelude.{◌≡◌, ⊤, ◌⊎◌, ℕ, ◌+◌, ◌-◌, ◌<◌, ◌≤◌, nat_eq, IsTrue, false, min, List, [], ◌∷◌, ◌++◌, Option, length, map, take, slice_index}
+use Rattle.std.specs.List.{IsDistinct, list_any, sum}
 use Rattle.std.specs.Io.KnownBytes.{Appends}
 use Rattle.exh_keyer.specs.Pseudokey.{any_pseudokey}
 use Rattle.exh_prefix.specs.Leading.{ward_of}
-use Rattle.exh_table.specs.TableWalk.{walk_of}
+use Rattle.exh_table.specs.declared.leaf.Leaf.{Leaf}
 use Rattle.exh_page.specs.declared.page.Page.{Page}
 use Rattle.exh_page.specs.Page.{records_of}
 use Rattle.exh_page.specs.Records.{value_at}
-use Rattle.exh_format.specs.declared.file_entry.FileEntry.{FileEntry}
 use Rattle.exh_format.specs.declared.header.Header.{Header}
-use Rattle.exh_format.specs.declared.table_block.TheConstants.{BLOCK_ENTRIES}
 use Rattle.exh_prefix.specs.declared.version.Version.{Version}
 use Rattle.exh_format.specs.FileVersion.{FileVersion, file_version, format_of}
-use Rattle.exh_format.specs.TableImage.{AreRising, prefixes_of}
-use Rattle.exh_format.specs.FileTests.{HeaderFails, PageFails, TableFails}
-use Rattle.exh_format.specs.PageFile.{table_blocks}
-use Rattle.exh_format.specs.Reading.{last_prefix}
-use Rattle.exh_format.specs.LegalFile.{table_naming}
+use Rattle.exh_format.specs.FileTests.{HeaderFails, PageFails}
 use Rattle.exh_direct.specs.declared.direct_fault.DirectFault.{DirectFault}
 use Rattle.exh_direct.specs.declared.direct_fault.DirectFault.TheVariants.{File, Astray, Read, Memory}
 use Rattle.exh_direct.specs.declared.lead.Lead.TheVariants.{Home, Nowhere, To}
-use Rattle.exh_direct.specs.KnownBlocks.{BlockFails, IsHeaderAt, IsPageBlock, IsTableBlock, ReadsUpTo}
+use Rattle.exh_direct.specs.declared.table_block.TableBlock.{TableBlock}
+use Rattle.exh_direct.specs.KnownBlocks.{BlockFails, IsHeaderAt, IsPageBlock, MayRead}
+use Rattle.exh_direct.specs.TableSearch.{AreBlocksOf, FailsNext, TABLE_READS, WalkEnds, places_in}
 use Rattle.exh_direct.specs.Way.{lead_of}
 
 -- ---- places
-
--- the table stands behind the header and all pages
-abbrev pub table_place : Header → ℕ
-table_place header = 1 + sum header.page_counts
 
 -- a page behind the header, the pages of the wards before its own, and those before it
 abbrev pub page_place : Header → ℕ → ℕ → ℕ
 page_place header ward number = 1 + sum (take ward header.page_counts) + number
 
--- the header and the blocks of the table
-abbrev pub head_places : Header → List ℕ
-head_places header = 0 ∷ range_with_len (table_place header) (table_blocks header.entry_count)
-
 -- ---- the table
 
--- the entries of one block of a table: as many as there is room for, in the last the others
-abbrev pub block_of : ℕ → List FileEntry → List FileEntry
-block_of number entries = take BLOCK_ENTRIES (drop (BLOCK_ENTRIES * number) entries)
-
--- the entries that the table's first blocks have
-pub record IsTableFront (version : FileVersion) (known : Option (List ℕ)) (header : Header) (blocks : ℕ) (entries : List FileEntry) : Type 0 where
-  pub count : length entries ≡ min (BLOCK_ENTRIES * blocks) header.entry_count
-  pub rising : AreRising (prefixes_of entries)
-  pub each : (number : ℕ) → number < blocks → IsTableBlock version.images known (table_place header + number) (block_of number entries)
-
--- all of its entries
-abbrev pub IsTable : FileVersion → Option (List ℕ) → Header → List FileEntry → Type 0
-IsTable version known header entries = IsTableFront version known header (table_blocks header.entry_count) entries
-
--- the page that they name for a pseudokey: where the walk of its ward's table ends
-abbrev pub page_named : Header → ℕ → List FileEntry → ℕ
-page_named header pseudokey entries = (walk_of (table_naming entries (ward_of header.settings.ward_bits pseudokey)) header.settings.ward_bits pseudokey).page
-
--- a page that the table names, once its blocks were read and no other
+-- a page that the table names for a pseudokey, once some of its blocks were read, each once: where the walk ends over what
+-- they tell
 pub record NamesPage (version : FileVersion) (known : Option (List ℕ)) (header : Header) (pseudokey : ℕ) (old new : Option (List ℕ)) (page : ℕ) : Type 0 where
-  pub entries : List FileEntry
-  pub table : IsTable version known header entries
-  pub is : page ≡ page_named header pseudokey entries
-  pub reads : Appends old new (range_with_len (table_place header) (table_blocks header.entry_count))
+  pub blocks : List TableBlock
+  pub are : AreBlocksOf version known header blocks
+  pub few : length blocks ≤ TABLE_READS
+  pub leaf : Leaf
+  pub ends : WalkEnds blocks header pseudokey leaf
+  pub is : page ≡ leaf.page
+  pub reads : Appends old new (places_in header blocks)
 
--- behind some blocks of the table, fewer than it has, one fails
-pub record FailsBehind (version : FileVersion) (known : Option (List ℕ)) (header : Header) (fault : DirectFault) : Type 0 where
-  pub blocks : ℕ
-  pub fewer : blocks < table_blocks header.entry_count
-  pub entries : List FileEntry
-  pub front : IsTableFront version known header blocks entries
-  pub fails : BlockFails (TableFails version.images (table_place header + blocks) (min BLOCK_ENTRIES (header.entry_count - BLOCK_ENTRIES * blocks)) (last_prefix None entries)) known (table_place header + blocks) fault
-
+-- behind some of its blocks another one fails
 abbrev pub FailsInTable : FileVersion → Option (List ℕ) → Header → Option (List ℕ) → Option (List ℕ) → DirectFault → Type 0
-FailsInTable version known header old new fault = FailsBehind version known header fault × ReadsUpTo old new (table_blocks header.entry_count)
+FailsInTable version known header old new fault = FailsNext version known header old new [] TABLE_READS fault
 
 -- ---- the way from page to page
 
@@ -95,6 +62,10 @@ place_in header key number = page_place header (ward_in header key) number
 abbrev pub pages_within : ℕ → Header → List ℕ → ℕ
 pages_within whole header key = min (pages_in header key) (whole - place_in header key 0)
 
+-- behind a way no page was read, or that of the number, which is another than those of the way
+abbrev pub IsLastRead : Header → List ℕ → List ℕ → ℕ → Option (List ℕ) → Option (List ℕ) → Type 0
+IsLastRead header key way number old new = Appends old new [] ⊎ ((number < pages_in header key) × (list_any (nat_eq number) way ≡ false) × Appends old new (place_in header key number ∷ []))
+
 module _ (version : FileVersion) (known : Option (List ℕ)) (header : Header) (key : List ℕ) where
   -- the page of a number
   pub record IsPageIn (number : ℕ) (page : Page) : Type 0 where
@@ -108,7 +79,7 @@ module _ (version : FileVersion) (known : Option (List ℕ)) (header : Header) (
 
   -- of a file of so many whole blocks
   module _ (whole : ℕ) where
-    -- what the key's own page has, at the end of a way; the pages of the way were read, and this one
+    -- what the key's own page has, at the end of a way; the pages of the way were read, and this one, each once
     pub record FindsOnWay (first : ℕ) (old new : Option (List ℕ)) (value : Option (List ℕ)) : Type 0 where
       pub way : List ℕ
       pub number : ℕ
@@ -118,12 +89,13 @@ module _ (version : FileVersion) (known : Option (List ℕ)) (header : Header) (
       pub home : lead_of page (pseudokey_in header key) ≡ Home
       pub is : value ≡ value_at (pseudokey_in header key, key) (records_of page)
       pub short : length way < pages_within whole header key
+      pub once : IsDistinct nat_eq (way ++ number ∷ [])
       pub reads : Appends old new (map (place_in header key) (way ++ number ∷ []))
 
-    -- a number behind a way at which no page leads on: it is that of a page within the file, and as many as lie there were
-    -- passed, or the ward has none of this number, or the page leads nowhere
+    -- a number behind a way at which no page leads on: it is that of a page of the way, or of one within the file, and as
+    -- many as lie there were passed, or the ward has none of this number, or the page leads nowhere
     abbrev pub IsAstray : List ℕ → ℕ → Type 0
-    IsAstray way number = ((number < pages_within whole header key) × (pages_within whole header key ≤ length way))
+    IsAstray way number = (IsTrue (list_any (nat_eq number) way) ⊎ ((number < pages_within whole header key) × (pages_within whole header key ≤ length way)))
         ⊎ ((pages_in header key ≤ number) ⊎ ((page : Page) × IsPageIn number page × (lead_of page (pseudokey_in header key) ≡ Nowhere)))
 
     -- what comes of the number: the fault of its page, or that it leads astray
@@ -133,35 +105,39 @@ module _ (version : FileVersion) (known : Option (List ℕ)) (header : Header) (
     FailsAtEnd way number Read = ⊤
     FailsAtEnd way number Memory = ⊤
 
-    -- the pages of a way were read, and at most one more; there are at most as many as the ward has within the file
+    -- the pages of a way were read, each once, and at most one more; there are at most as many as the ward has within the
+    -- file
     pub record FailsOnWay (first : ℕ) (old new : Option (List ℕ)) (fault : DirectFault) : Type 0 where
       pub way : List ℕ
       pub number : ℕ
       pub leads : IsWay first way number
       pub fails : FailsAtEnd way number fault
       pub short : length way ≤ pages_within whole header key
-      pub reads : ReadsUpTo old new (length way + 1)
+      pub once : IsDistinct nat_eq way
+      pub between : Option (List ℕ)
+      pub reads : Appends old between (map (place_in header key) way)
+      pub last : IsLastRead header key way number between new
 
 -- ---- the whole answer
 
 -- the value of a key in the version that a header is of, and the blocks that were read for it, of so many whole ones, in
--- their order
+-- their order: the header, some of the table, each once, and the pages of the way
 pub record Finds (known : Option (List ℕ)) (whole : ℕ) (key : List ℕ) (old new : Option (List ℕ)) (value : Option (List ℕ)) : Type 0 where
   pub version : Version
   pub header : Header
   pub head : IsHeaderAt (file_version version) known header
+  pub first : Option (List ℕ)
   pub between : Option (List ℕ)
-  pub entries : List FileEntry
-  pub table : IsTable (file_version version) known header entries
-  pub heads : Appends old between (head_places header)
-  pub found : FindsOnWay (file_version version) known header key whole (page_named header (pseudokey_in header key) entries) between new value
+  pub reads : Appends old first (0 ∷ [])
+  pub page : ℕ
+  pub names : NamesPage (file_version version) known header (pseudokey_in header key) first between page
+  pub found : FindsOnWay (file_version version) known header key whole page between new value
 
 -- the first fault: of the header, of the table behind it, or of the way behind both
 abbrev pub RefusesBehind : FileVersion → Option (List ℕ) → ℕ → List ℕ → Option (List ℕ) → Option (List ℕ) → DirectFault → Header → Type 0
-RefusesBehind version known whole key old new fault header = IsHeaderAt version known header × ((FailsBehind version known header fault × ReadsUpTo old new (1 + table_blocks header.entry_count))
-    ⊎ ((entries : List FileEntry) × IsTable version known header entries × (between : Option (List ℕ)) × Appends old between (head_places header)
-    × FailsOnWay version known header key whole (page_named header (pseudokey_in header key) entries) between new fault))
+RefusesBehind version known whole key old new fault header = IsHeaderAt version known header × (first : Option (List ℕ)) × Appends old first (0 ∷ []) × (FailsInTable version known header first new fault
+    ⊎ ((page : ℕ) × (between : Option (List ℕ)) × NamesPage version known header (pseudokey_in header key) first between page × FailsOnWay version known header key whole page between new fault))
 
 abbrev pub Refuses : Option (List ℕ) → ℕ → List ℕ → Option (List ℕ) → Option (List ℕ) → DirectFault → Type 0
-Refuses known whole key old new fault = (BlockFails (λ block. HeaderFails (format_of block) block) known 0 fault × ReadsUpTo old new 1)
+Refuses known whole key old new fault = (BlockFails (λ block. HeaderFails (format_of block) block) known 0 fault × MayRead old new 0)
     ⊎ ((version : Version) × (header : Header) × RefusesBehind (file_version version) known whole key old new fault header)

@@ -1,5 +1,6 @@
 -- Blocks of a file that are read by their places, where the file's bytes are known.
-use Rattle.std.specs.Prelude.{◌≡◌, ⊤, ℕ, ◌/◌, ◌<◌, ◌≤◌, List, Option, length, IfSome}
+use Rattle.std.specs.Prelude.{◌≡◌, ⊤, ◌⊎◌, ℕ, ◌/◌, ◌<◌, nat_eq, List, [], ◌∷◌, Option, length, IfSome}
+use Rattle.std.specs.List.{IsDistinct}
 use Rattle.std.specs.Io.KnownBytes.{Appends}
 use Rattle.exh_prefix.specs.Version.{Version}
 use Rattle.exh_page.specs.declared.page.Page.{Page}
@@ -26,11 +27,15 @@ IsBlockAt known place block = IfSome known (λ bytes. IsWhole place bytes × (bl
 abbrev pub IsCount : Option (List ℕ) → ℕ → Type 0
 IsCount known count = IfSome known (λ bytes. count ≡ length bytes / BLOCK_LEN)
 
--- at most so many blocks were read
-pub record ReadsUpTo (old new : Option (List ℕ)) (most : ℕ) : Type 0 where
+-- the block at a place was read, or none was
+abbrev pub MayRead : Option (List ℕ) → Option (List ℕ) → ℕ → Type 0
+MayRead old new place = Appends old new [] ⊎ Appends old new (place ∷ [])
+
+-- no block was read twice
+pub record ReadsOnce (old new : Option (List ℕ)) : Type 0 where
   pub places : List ℕ
   pub are : Appends old new places
-  pub few : length places ≤ most
+  pub once : IsDistinct nat_eq places
 
 -- ---- what stands in them
 

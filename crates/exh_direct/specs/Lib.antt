@@ -1,6 +1,6 @@
 pub mod KnownBlocks
 pub mod DirectFault
-pub mod BlockWalk
 pub mod Way
+pub mod TableSearch
 pub mod DirectAnswer
 pub mod DirectLaws

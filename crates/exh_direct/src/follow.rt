@@ -1,4 +1,7 @@
-ghost use Rattle.std.specs.Prelude.{◌≡◌, ◌+◌, ◌-◌, ◌*◌, ◌<◌, ◌≤◌, ◌^◌, min, take, IfOk, IfErr, IfSome};
+ghost use Rattle.std.specs.Prelude.{◌≡◌, ◌+◌, ◌-◌, ◌*◌, ◌<◌, ◌≤◌, ◌^◌, min, not, true, take, IfOk, IfErr, OnOk};
+ghost use Rattle.std.specs.BTreeSet.{Updates, contains};
+ghost use Rattle.std.specs.Ordering.{nat_cmp};
+ghost use Rattle.exh_direct.specs.declared.direct_fault.DirectFault.TheVariants.{Memory};
 ghost use Rattle.std.specs.List.{sum};
 ghost use Rattle.exh_keyer.specs.Pseudokey.{any_pseudokey};
 ghost use Rattle.exh_format.specs.FileVersion.{file_version};
@@ -14,9 +17,11 @@ use exh_format::{FileFault, Header};
 use exh_page::{Key, Value};
 use exh_prefix::{PageNo, Version, ward_number};
 use std::alloc::Global;
+use std::collections::BTreeSet;
 
 /// What the page of a key has, which the links lead to from the first page on. Of so many blocks it reads at most as many
-/// pages as the ward has within them. It takes memory for a page at a time.
+/// pages as the ward has within them, each once. It takes memory for a page at a time, and for the numbers of those that were
+/// passed.
 pub(crate) fn follow<B: Blocks>(
     alloc: Global,
     blocks: &mut B,
@@ -38,9 +43,13 @@ pub(crate) fn follow<B: Blocks>(
     let pages = header.page_counts[ward];
     let before = pages_before(header, ward);
     let within = pages_within(pages, before, count);
+    let mut passed = BTreeSet::new(alloc);
     let mut number = first;
     for turn in 0..within {
         if number >= pages {
+            return Err(DirectFault::Astray);
+        }
+        if !note_passed(&mut passed, number)? {
             return Err(DirectFault::Astray);
         }
         let page = read_page(
@@ -62,6 +71,18 @@ pub(crate) fn follow<B: Blocks>(
         return Err(DirectFault::File(FileFault::Truncated));
     }
     Err(DirectFault::Astray)
+}
+
+// Notes that the page of a number is passed, and answers whether none of this number was.
+fn note_passed(passed: &mut BTreeSet<PageNo>, number: PageNo) -> Result<bool, DirectFault>
+    ensures ok { IfOk result (λ first. first ≡ not (contains nat_cmp passed.old number)) }
+    ensures noted { OnOk result (Updates nat_cmp passed.old passed.new number true) }
+    ensures err { IfErr result (λ fault. fault ≡ Memory) }
+{
+    match passed.insert(number) {
+        Ok(first) => Ok(first),
+        Err(_) => Err(DirectFault::Memory),
+    }
 }
 
 // How many of a ward's pages, which begin at a place, lie within so many blocks.

@@ -1,4 +1,4 @@
-//! A page file used directly: the value of one key, from the header, the table and the pages on the key's way alone, in
+//! A page file used directly: the value of one key, from the header, the blocks of the table that its walk asks for and the pages on the key's way alone, in
 //! the version that the header says.
 #![tactic(auto)]
 
@@ -13,4 +13,7 @@ mod follow;
 mod lead;
 mod named;
 mod reading;
+mod search;
+mod side;
+mod table_block;
 mod walk;

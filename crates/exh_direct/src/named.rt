@@ -1,20 +1,20 @@
-ghost use Rattle.std.specs.Prelude.{◌≡◌, ◌+◌, ◌*◌, ◌<◌, ◌≤◌, ◌^◌, IfOk, IfErr, length, None};
-ghost use Rattle.std.specs.List.{sum};
+ghost use Rattle.std.specs.Prelude.{◌≡◌, IfOk, IfErr, []};
+ghost use Rattle.exh_format.specs.declared.file_entry.FileEntry.{FileEntry};
 ghost use Rattle.exh_format.specs.FileVersion.{file_version};
-ghost use Rattle.exh_prefix.specs.declared.prefix.TheConstants.{LIMIT};
-ghost use Rattle.exh_format.specs.HeaderImage.{IsHeader, IsKnownHeader};
-ghost use Rattle.exh_format.specs.Reading.{last_prefix};
-ghost use Rattle.exh_direct.specs.KnownBlocks.{IsCount, ReadsUpTo};
-ghost use Rattle.exh_direct.specs.DirectAnswer.{FailsInTable, NamesPage, table_place};
+ghost use Rattle.exh_format.specs.HeaderImage.{IsHeader};
+ghost use Rattle.exh_direct.specs.KnownBlocks.{IsCount};
+ghost use Rattle.exh_direct.specs.TableSearch.{right_told};
+ghost use Rattle.exh_direct.specs.DirectAnswer.{FailsInTable, NamesPage};
 
-use crate::reading::{read_entries, total};
-use crate::walk::{first_leaf, pass_all};
+use crate::search::entry_at;
+use crate::walk::{first_leaf, next_bit};
 use crate::{Blocks, DirectFault};
-use exh_format::{BLOCK_ENTRIES, FileEntry, Header};
-use exh_prefix::{PageNo, Prefix, Version, ward_number};
+use exh_format::{FileEntry, Header};
+use exh_notice::Kind;
+use exh_prefix::{LIMIT, PageNo, Version, ward_number};
 use std::alloc::Global;
 
-/// The page that the table names for a pseudokey. It takes memory for the entries of a block at a time.
+/// The page that the table names for a pseudokey. It takes memory for the entries of the blocks that it reads.
 pub(crate) fn named_page<B: Blocks>(
     alloc: Global,
     blocks: &mut B,
@@ -29,42 +29,34 @@ pub(crate) fn named_page<B: Blocks>(
     ensures ok { IfOk result (NamesPage (file_version version) (B.known blocks.old) header.now pseudokey (B.reads blocks.old) (B.reads blocks.new)) }
     ensures err { IfErr result (FailsInTable (file_version version) (B.known blocks.old) header.now (B.reads blocks.old) (B.reads blocks.new)) }
 {
-    let place = table_place(header);
     let ward = ward_number(header.settings.ward_bits, pseudokey);
-    let entries = header.entry_count as usize;
     let mut leaf = first_leaf(header.settings.ward_bits, pseudokey);
-    let mut before = None;
-    for number in 0..(entries + (BLOCK_ENTRIES - 1)) / BLOCK_ENTRIES {
-        let more = BLOCK_ENTRIES.min(entries - BLOCK_ENTRIES * number);
-        let next = read_entries(
+    let mut read = Vec::new(alloc);
+    while leaf.prefix.len() < LIMIT {
+        let told = entry_at(
             alloc,
             blocks,
             version,
             count,
-            place + number as u32,
-            more,
-            before,
+            header,
+            &mut read,
+            leaf.prefix,
         )?;
-        pass_all(&mut leaf, &next, ward, pseudokey);
-        note_last(&mut before, &next);
+        match right_told(told, ward) {
+            Some(right) => leaf = leaf.step(next_bit(leaf.prefix, pseudokey), right),
+            None => return Ok(leaf.page),
+        }
     }
     Ok(leaf.page)
 }
 
-// Where the table begins: behind the header and all pages.
-fn table_place(header: &Header) -> u32
-    requires { IsKnownHeader header.now }
-    ensures place { result ≡ table_place header.now }
-    ensures few { result ≤ 16 * 2 ^ LIMIT + 1 }
+// The right page of the split that an entry is, if it is one and of the ward.
+fn right_told(told: Option<FileEntry>, ward: u8) -> Option<PageNo>
+    ensures { result ≡ right_told ward told }
 {
-    1 + total(&header.page_counts)
-}
-
-// Goes from the prefix before some entries on to that of the last of them, if there is one.
-fn note_last(last: &mut Option<Prefix>, entries: &[FileEntry])
-    ensures { last.new ≡ last_prefix last.old entries.now }
-{
-    if !entries.is_empty() {
-        *last = Some(entries[entries.len() - 1].prefix);
+    let item = told?;
+    match item.entry.kind {
+        Kind::Split { right } if item.ward == ward => Some(right),
+        _ => None,
     }
 }

@@ -1,14 +1,17 @@
-ghost use Rattle.std.specs.Prelude.{◌≡◌, ◌<◌, ◌≤◌, ◌^◌, ◌++◌, [], ◌∷◌, vec_len, IfOk, OnOk, IfErr};
+ghost use Rattle.std.specs.Prelude.{◌≡◌, ◌<◌, ◌≤◌, ◌^◌, ◌+◌, ◌*◌, ◌++◌, [], ◌∷◌, vec_len, IfOk, OnOk, IfErr};
 ghost use Rattle.std.specs.List.{sum};
 ghost use Rattle.std.specs.Option.{option_to_list};
 ghost use Rattle.std.specs.Io.KnownBytes.{Appends};
 ghost use Rattle.exh_keyer.specs.Pseudokey.{any_pseudokey};
 ghost use Rattle.exh_prefix.specs.Layout.{layout};
+ghost use Rattle.exh_prefix.specs.declared.prefix.TheConstants.{LIMIT};
+ghost use Rattle.exh_format.specs.HeaderImage.{IsKnownHeader};
+ghost use Rattle.exh_direct.specs.TableSearch.{table_place};
 ghost use Rattle.exh_format.specs.FileVersion.{file_version, format_of};
 ghost use Rattle.exh_format.specs.TableImage.{AreRising, prefixes_of};
 ghost use Rattle.exh_format.specs.declared.table_block.TheConstants.{BLOCK_ENTRIES};
 ghost use Rattle.exh_format.specs.FileTests.{HeaderFails, PageFails, TableFails};
-ghost use Rattle.exh_direct.specs.KnownBlocks.{BlockFails, IsBlockAt, IsCount, IsCutOff, IsHeaderAt, IsPageBlock, IsTableBlock, ReadsUpTo};
+ghost use Rattle.exh_direct.specs.KnownBlocks.{BlockFails, IsBlockAt, IsCount, IsCutOff, IsHeaderAt, IsPageBlock, IsTableBlock, MayRead};
 
 use crate::{Blocks, DirectFault};
 use exh_codec::{BLOCK_LEN, decode_page_of};
@@ -25,7 +28,7 @@ pub(crate) fn read_header<B: Blocks>(
 ) -> Result<(Version, Header), DirectFault>
     requires { IsCount (B.known blocks.old) count }
     ensures same_bytes { B.known blocks.new ≡ B.known blocks.old }
-    ensures few { ReadsUpTo (B.reads blocks.old) (B.reads blocks.new) 1 }
+    ensures may_read { MayRead (B.reads blocks.old) (B.reads blocks.new) 0 }
     ensures one_read { OnOk result (Appends (B.reads blocks.old) (B.reads blocks.new) (0 ∷ [])) }
     ensures ok { IfOk result (λ found. IsHeaderAt (file_version found.0) (B.known blocks.old) found.1) }
     ensures err { IfErr result (BlockFails (λ block. HeaderFails (format_of block) block) (B.known blocks.old) 0) }
@@ -52,7 +55,7 @@ pub(crate) fn read_entries<B: Blocks>(
     requires count { IsCount (B.known blocks.old) count }
     requires few { entries ≤ BLOCK_ENTRIES }
     ensures same_bytes { B.known blocks.new ≡ B.known blocks.old }
-    ensures few { ReadsUpTo (B.reads blocks.old) (B.reads blocks.new) 1 }
+    ensures may_read { MayRead (B.reads blocks.old) (B.reads blocks.new) place }
     ensures one_read { OnOk result (Appends (B.reads blocks.old) (B.reads blocks.new) (place ∷ [])) }
     ensures ok { IfOk result (λ found. IsTableBlock (layout version) (B.known blocks.old) place found.items) }
     ensures count { IfOk result (λ found. vec_len found ≡ entries) }
@@ -78,7 +81,7 @@ pub(crate) fn read_page<B: Blocks>(
 ) -> Result<Page, DirectFault>
     requires { IsCount (B.known blocks.old) count }
     ensures same_bytes { B.known blocks.new ≡ B.known blocks.old }
-    ensures few { ReadsUpTo (B.reads blocks.old) (B.reads blocks.new) 1 }
+    ensures may_read { MayRead (B.reads blocks.old) (B.reads blocks.new) place }
     ensures one_read { OnOk result (Appends (B.reads blocks.old) (B.reads blocks.new) (place ∷ [])) }
     ensures ok { IfOk result (IsPageBlock (layout version) (any_pseudokey keyer) (B.known blocks.old) place) }
     ensures err { IfErr result (BlockFails (PageFails (layout version) (any_pseudokey keyer) place) (B.known blocks.old) place) }
@@ -100,7 +103,7 @@ fn read_block<B: Blocks>(
 ) -> Result<(), DirectFault>
     requires { IsCount (B.known blocks.old) count }
     ensures same_bytes { B.known blocks.new ≡ B.known blocks.old }
-    ensures few { ReadsUpTo (B.reads blocks.old) (B.reads blocks.new) 1 }
+    ensures may_read { MayRead (B.reads blocks.old) (B.reads blocks.new) place }
     ensures one_read { OnOk result (Appends (B.reads blocks.old) (B.reads blocks.new) (place ∷ [])) }
     ensures block { OnOk result (IsBlockAt (B.known blocks.old) place block.new) }
     ensures err { IfErr result (IsCutOff (B.known blocks.old) place) }
@@ -112,6 +115,15 @@ fn read_block<B: Blocks>(
         Ok(()) => Ok(()),
         Err(_) => Err(DirectFault::Read),
     }
+}
+
+/// Where the table begins: behind the header and all pages.
+pub(crate) fn table_place(header: &Header) -> u32
+    requires { IsKnownHeader header.now }
+    ensures place { result ≡ table_place header.now }
+    ensures few { result ≤ 16 * 2 ^ LIMIT + 1 }
+{
+    1 + total(&header.page_counts)
 }
 
 /// How many pages so many wards have.

@@ -1,4 +1,5 @@
 use Rattle.exh_direct.proofs.InFile.{every}
+use Rattle.exh_direct.proofs.ReadOnce.{once_read}
 use Rattle.exh_direct.proofs.finding.find.Goals as goal
 
 pub returns-clause-every : goal.returns-clause-every
@@ -15,3 +16,6 @@ returns-clause-every g c =
       table_blocks = c.images_are_blocks-2.ensures.tables;
       walks = c.walks_name_homes.ensures;
     }) _ _ _ _ _ _ c.find_on_way.ensures.found c.find_on_way.ensures.refused
+
+pub returns-clause-once : goal.returns-clause-once
+returns-clause-once g c = once_read _ _ _ _ _ _ c.find_on_way.ensures.found c.find_on_way.ensures.refused

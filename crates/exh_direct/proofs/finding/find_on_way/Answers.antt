@@ -1,14 +1,8 @@
-use Rattle.std.proofs.Common.{◌≡◌, ℕ, List, [], ◌∷◌, Option, inl, inr, refl, ap, ◌∙◌, subst}
-use Rattle.std.proofs.KnownBytes.{Appends-trans}
+use Rattle.std.proofs.Common.{◌≡◌, ℕ, List, Option, inl, inr, ap, ◌∙◌, subst}
 use Rattle.std.proofs.lemmas.Result.{IfErr-weaker, IfOk-weaker}
-use Rattle.std.specs.Io.KnownBytes.{Appends}
-use Rattle.std.specs.List.{range_with_len}
 use Rattle.exh_keyer.specs.Pseudokey.{any_pseudokey}
 use Rattle.exh_format.specs.FileVersion.{file_version}
-use Rattle.exh_format.specs.PageFile.{table_blocks}
-use Rattle.exh_direct.specs.DirectAnswer.{FailsBehind, FailsOnWay, FindsOnWay, IsTable, Refuses, page_named, pseudokey_in, table_place}
-use Rattle.exh_direct.specs.KnownBlocks.{IsHeaderAt}
-use Rattle.exh_direct.proofs.ReadPlaces.{read_then}
+use Rattle.exh_direct.specs.DirectAnswer.{FailsInTable, FailsOnWay, FindsOnWay, NamesPage, Refuses, pseudokey_in}
 use Rattle.exh_direct.proofs.Ways.{err_is}
 use Rattle.exh_direct.proofs.finding.find_on_way.Goals as goal
 
@@ -23,7 +17,7 @@ returns-in_err-first-clause-refused g c =
     let heads = c.in_ok-version.ensures.one_read in
     let fails = c.in_err-first.ensures.err in
     err_is c.from_residual-in_err-first.result fault (Refuses known (g.B.Blocks.whole c.args.blocks.now) c.args.key.now _ _) c.from_residual-in_err-first.ensures.1
-    (inr (version, header, (head, inl (subst (λ (known : Option (List ℕ)). FailsBehind (file_version version) known header fault) same fails.0, read_then _ _ _ (0 ∷ []) 1 (table_blocks header.entry_count) refl heads fails.1))))
+    (inr (version, header, (head, g.B.Blocks.reads c.read_header.new.blocks, heads, inl (subst (λ (known : Option (List ℕ)). FailsInTable (file_version version) known header (g.B.Blocks.reads c.read_header.new.blocks) (g.B.Blocks.reads c.named_page.new.blocks) fault) same fails))))
 
 pub returns-clause-found : goal.returns-clause-found
 returns-clause-found g c =
@@ -38,19 +32,20 @@ returns-clause-found g c =
     let heads = c.in_ok-version.ensures.one_read in
     let names = c.in_ok-first.ensures.ok in
     let hashed : c.pseudo-pseudokey.result ≡ pseudokey_in header key = c.pseudo-pseudokey.ensures ∙ ap (any_pseudokey header.settings.keyer) c.as_bytes.ensures.bytes in
-    let first : c.in_ok-first.first ≡ page_named header (pseudokey_in header key) names.entries = names.is ∙ ap (λ (pseudokey : ℕ). page_named header pseudokey names.entries) hashed in
+    let named = subst (λ (pseudokey : ℕ). NamesPage (file_version version) known header pseudokey (g.B.Blocks.reads c.read_header.new.blocks) (g.B.Blocks.reads c.named_page.new.blocks) c.in_ok-first.first) hashed
+    (subst (λ (known : Option (List ℕ)). NamesPage (file_version version) known header c.pseudo-pseudokey.result (g.B.Blocks.reads c.read_header.new.blocks) (g.B.Blocks.reads c.named_page.new.blocks) c.in_ok-first.first) same names) in
     let counted : c.count-count.result ≡ whole = c.count-count.ensures.count in
     IfOk-weaker c.follow.result _ _ (λ value found. record {
       version = version;
       header = header;
       head = head;
+      first = g.B.Blocks.reads c.read_header.new.blocks;
       between = g.B.Blocks.reads c.named_page.new.blocks;
-      entries = names.entries;
-      table = subst (λ (known : Option (List ℕ)). IsTable (file_version version) known header names.entries) same names.table;
-      heads = Appends-trans _ _ _ (0 ∷ []) (range_with_len (table_place header) (table_blocks header.entry_count)) heads names.reads;
-      found = subst (λ (first : ℕ). FindsOnWay (file_version version) known header key whole first (g.B.Blocks.reads c.named_page.new.blocks) (g.B.Blocks.reads c.follow.new.blocks) value) first
-          (subst (λ (known : Option (List ℕ)). FindsOnWay (file_version version) known header key whole c.in_ok-first.first (g.B.Blocks.reads c.named_page.new.blocks) (g.B.Blocks.reads c.follow.new.blocks) value) later
-          (subst (λ (count : ℕ). FindsOnWay (file_version version) (g.B.Blocks.known c.named_page.new.blocks) header key count c.in_ok-first.first (g.B.Blocks.reads c.named_page.new.blocks) (g.B.Blocks.reads c.follow.new.blocks) value) counted found));
+      reads = heads;
+      page = c.in_ok-first.first;
+      names = named;
+      found = subst (λ (known : Option (List ℕ)). FindsOnWay (file_version version) known header key whole c.in_ok-first.first (g.B.Blocks.reads c.named_page.new.blocks) (g.B.Blocks.reads c.follow.new.blocks) value) later
+          (subst (λ (count : ℕ). FindsOnWay (file_version version) (g.B.Blocks.known c.named_page.new.blocks) header key count c.in_ok-first.first (g.B.Blocks.reads c.named_page.new.blocks) (g.B.Blocks.reads c.follow.new.blocks) value) counted found);
     }) c.follow.ensures.ok
 
 pub returns-clause-refused : goal.returns-clause-refused
@@ -66,21 +61,22 @@ returns-clause-refused g c =
     let heads = c.in_ok-version.ensures.one_read in
     let names = c.in_ok-first.ensures.ok in
     let hashed : c.pseudo-pseudokey.result ≡ pseudokey_in header key = c.pseudo-pseudokey.ensures ∙ ap (any_pseudokey header.settings.keyer) c.as_bytes.ensures.bytes in
-    let first : c.in_ok-first.first ≡ page_named header (pseudokey_in header key) names.entries = names.is ∙ ap (λ (pseudokey : ℕ). page_named header pseudokey names.entries) hashed in
+    let named = subst (λ (pseudokey : ℕ). NamesPage (file_version version) known header pseudokey (g.B.Blocks.reads c.read_header.new.blocks) (g.B.Blocks.reads c.named_page.new.blocks) c.in_ok-first.first) hashed
+    (subst (λ (known : Option (List ℕ)). NamesPage (file_version version) known header c.pseudo-pseudokey.result (g.B.Blocks.reads c.read_header.new.blocks) (g.B.Blocks.reads c.named_page.new.blocks) c.in_ok-first.first) same names) in
     let counted : c.count-count.result ≡ whole = c.count-count.ensures.count in
     IfErr-weaker c.follow.result _ _ (λ fault fails. inr (
       version,
       header,
       (
         head,
+        g.B.Blocks.reads c.read_header.new.blocks,
+        heads,
         inr (
-          names.entries,
-          subst (λ (known : Option (List ℕ)). IsTable (file_version version) known header names.entries) same names.table,
+          c.in_ok-first.first,
           g.B.Blocks.reads c.named_page.new.blocks,
-          Appends-trans _ _ _ (0 ∷ []) (range_with_len (table_place header) (table_blocks header.entry_count)) heads names.reads,
-          subst (λ (first : ℕ). FailsOnWay (file_version version) known header key whole first (g.B.Blocks.reads c.named_page.new.blocks) (g.B.Blocks.reads c.follow.new.blocks) fault) first
-              (subst (λ (known : Option (List ℕ)). FailsOnWay (file_version version) known header key whole c.in_ok-first.first (g.B.Blocks.reads c.named_page.new.blocks) (g.B.Blocks.reads c.follow.new.blocks) fault) later
-              (subst (λ (count : ℕ). FailsOnWay (file_version version) (g.B.Blocks.known c.named_page.new.blocks) header key count c.in_ok-first.first (g.B.Blocks.reads c.named_page.new.blocks) (g.B.Blocks.reads c.follow.new.blocks) fault) counted fails)),
+          named,
+          subst (λ (known : Option (List ℕ)). FailsOnWay (file_version version) known header key whole c.in_ok-first.first (g.B.Blocks.reads c.named_page.new.blocks) (g.B.Blocks.reads c.follow.new.blocks) fault) later
+              (subst (λ (count : ℕ). FailsOnWay (file_version version) (g.B.Blocks.known c.named_page.new.blocks) header key count c.in_ok-first.first (g.B.Blocks.reads c.named_page.new.blocks) (g.B.Blocks.reads c.follow.new.blocks) fault) counted fails),
         ),
       ),
     )) c.follow.ensures.err

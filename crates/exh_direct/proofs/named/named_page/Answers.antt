@@ -1,31 +1,33 @@
-use Rattle.std.proofs.Common.{◌≡◌, ◌+◌, ◌-◌, ◌*◌, ◌<◌, ◌++◌, min, ℕ, Bool, List, [], ◌∷◌, Option, None, length, refl, sym, ap, ◌∙◌, subst, arith}
-use Rattle.std.proofs.KnownBytes.{Appends-nil, Appends-trans}
-use Rattle.std.proofs.lemmas.List.FromFn.{length-range_with_len}
+use Rattle.std.proofs.Common.{◌≡◌, ℕ, suc, ◌+◌, ◌*◌, ◌<◌, ◌≤◌, List, Bool, false, Option, None, Some, [], length, get_or, inl, inr, refl, sym, ap, ◌∙◌, subst, arith}
+use Rattle.std.proofs.lemmas.List.{length_push}
 use Rattle.std.specs.Io.KnownBytes.{Appends}
-use Rattle.std.specs.List.{AllByRecursion, range_with_len}
-use Rattle.std.specs.Option.{option_to_list}
+use Rattle.exh_prefix.specs.Bits.{word_bits}
 use Rattle.exh_prefix.specs.declared.prefix.TheConstants.{LIMIT}
-use Rattle.exh_prefix.specs.Layout.{layout}
 use Rattle.exh_table.specs.declared.leaf.Leaf.{Leaf}
-use Rattle.exh_format.specs.declared.file_entry.FileEntry.{FileEntry}
-use Rattle.exh_format.specs.FileVersion.{file_version}
-use Rattle.exh_format.specs.TableImage.{AreRising, prefixes_of}
-use Rattle.exh_format.specs.FileTests.{TableFails}
-use Rattle.exh_format.specs.PageFile.{table_blocks}
-use Rattle.exh_format.specs.Reading.{last_prefix}
-use Rattle.exh_direct.specs.DirectAnswer.{FailsInTable, table_place}
-use Rattle.exh_direct.specs.KnownBlocks.{BlockFails, IsTableBlock}
-use Rattle.exh_direct.specs.BlockWalk.{IsOnWay, passed_all}
-use Rattle.exh_direct.proofs.ReadPlaces.{range_more, read_fewer, read_then}
+use Rattle.exh_table.specs.TableWalk.{step}
+use Rattle.exh_format.specs.declared.header.Header.{Header}
+use Rattle.exh_format.specs.FileVersion.{FileVersion, file_version}
 use Rattle.exh_format.specs.HeaderLemmas.{few_wards}
-use Rattle.exh_format.specs.ReadingLemmas.{last_of_join}
-use Rattle.exh_direct.proofs.Tables.{all_short, block_more, no_block}
-use Rattle.exh_direct.proofs.Walks.{first_on_way, walk_first, walk_more}
+use Rattle.exh_direct.specs.declared.table_block.TableBlock.{TableBlock}
+use Rattle.exh_direct.specs.DirectAnswer.{FailsInTable, NamesPage}
+use Rattle.exh_direct.specs.TableSearch.{FailsNext, HasComeTo, IsOnWay, ReadsOn, TABLE_READS, TellsRight, WalkEnds, places_in, right_told}
+use Rattle.exh_direct.proofs.Searches.{come_more, fails_later, fails_within, no_blocks, no_more, read_more, read_within}
+use Rattle.exh_direct.proofs.Walks.{first_on_way, step_on_way}
 use Rattle.exh_direct.proofs.Ways.{err_is}
 use Rattle.exh_direct.proofs.named.named_page.Goals as goal
 
-pub table_place-place-requires : goal.table_place-place-requires
-table_place-place-requires g c = (c.args.version, c.requires.header)
+-- all blocks that were read, where the walk over them ends
+names_page : (version : FileVersion) (known : Option (List ℕ)) (header : Header) (pseudokey : ℕ) (old new : Option (List ℕ)) (blocks : List TableBlock) (leaf : Leaf) → ReadsOn version known header old new [] blocks TABLE_READS
+    → WalkEnds blocks header pseudokey leaf → NamesPage version known header pseudokey old new leaf.page
+names_page version known header pseudokey old new blocks leaf on ends = record {
+  blocks = blocks;
+  are = on.are;
+  few = omega (arith, on.few, ap length on.joined);
+  leaf = leaf;
+  ends = ends;
+  is = refl;
+  reads = subst (λ (blocks : List TableBlock). Appends old new (places_in header blocks)) (sym on.joined) on.reads;
+}
 
 pub ward_number-ward-requires : goal.ward_number-ward-requires
 ward_number-ward-requires g c = let bits = few_wards c.args.header.now.settings.ward_bits c.requires.header.wards in omega (arith, bits)
@@ -33,70 +35,83 @@ ward_number-ward-requires g c = let bits = few_wards c.args.header.now.settings.
 pub first_leaf-leaf-requires : goal.first_leaf-leaf-requires
 first_leaf-leaf-requires g c = let bits = few_wards c.args.header.now.settings.ward_bits c.requires.header.wards in omega (arith, bits)
 
-pub loop-number-init : goal.loop-number-init
-loop-number-init g c =
+pub loop-alloc-init : goal.loop-alloc-init
+loop-alloc-init g c =
     let header = c.args.header.now in
     let bits = few_wards header.settings.ward_bits c.requires.header.wards in
-    let ward = c.ward_number-ward.result in
     record {
       same = refl;
-      reads = Appends-nil (g.B.Blocks.reads c.args.blocks.now);
       on_way = subst (IsOnWay c.args.pseudokey) (sym c.first_leaf-leaf.ensures) (first_on_way header.settings.ward_bits c.args.pseudokey (omega (arith, bits)));
-      so_far = ([], no_block (file_version c.args.version) (g.B.Blocks.known c.args.blocks.now) header, refl, c.first_leaf-leaf.ensures ∙ sym (walk_first ward header.settings.ward_bits c.args.pseudokey));
+      come = (0, c.first_leaf-leaf.ensures);
+      reads = subst (λ (blocks : List TableBlock). ReadsOn (file_version c.args.version) (g.B.Blocks.known c.args.blocks.now) header (g.B.Blocks.reads c.args.blocks.now) (g.B.Blocks.reads c.args.blocks.now) [] blocks (13 * length c.first_leaf-leaf.result.prefix))
+          (sym c.new-read.ensures.items) (no_more (file_version c.args.version) (g.B.Blocks.known c.args.blocks.now) header (g.B.Blocks.reads c.args.blocks.now) [] _ (no_blocks (file_version c.args.version) (g.B.Blocks.known c.args.blocks.now) header));
     }
 
-pub returns-in_err-next-clause-err : goal.returns-in_err-next-clause-err
-returns-in_err-next-clause-err g c =
+pub returns-in_err-told-clause-err : goal.returns-in_err-told-clause-err
+returns-in_err-told-clause-err g c =
     let header = c.args.header.now in
+    let version = file_version c.args.version in
     let known = g.B.Blocks.known c.args.blocks.now in
-    let number = c.loop-number.number in
-    let so_far = c.loop-number.invariant.so_far in
-    let fault = c.in_err-next.field-0.0 in
-    let place : c.table_place-place.result + number ≡ table_place header + number = ap (λ (place : ℕ). place + number) c.table_place-place.ensures.place in
-    let fewer : number < table_blocks header.entry_count = c.loop-number-test.true in
-    let at_place = subst (λ (place : ℕ). BlockFails (TableFails (layout c.args.version) place c.min-more.result c.loop-number.before) (g.B.Blocks.known c.loop-number.blocks) place fault) place c.in_err-next.ensures.err in
-    let at_count = subst (λ (more : ℕ). BlockFails (TableFails (layout c.args.version) (table_place header + number) more c.loop-number.before) (g.B.Blocks.known c.loop-number.blocks) (table_place header + number) fault) c.min-more.ensures at_place in
-    let behind = subst (λ (before : Option (List Bool)). BlockFails (TableFails (layout c.args.version) (table_place header + number) (min 254 (header.entry_count - 254 * number)) before) (g.B.Blocks.known c.loop-number.blocks) (table_place header + number) fault) so_far.2 at_count in
-    let fails = subst (λ (known : Option (List ℕ)). BlockFails (TableFails (layout c.args.version) (table_place header + number) (min 254 (header.entry_count - 254 * number)) (last_prefix None so_far.0)) known (table_place header + number) fault) c.loop-number.invariant.same behind in
-    err_is c.from_residual.result fault (FailsInTable (file_version c.args.version) known header _ _) c.from_residual.ensures.1 (
-      record { blocks = number; fewer = fewer; entries = so_far.0; front = so_far.1; fails = fails },
-      read_fewer _ _ (number + 1) (table_blocks header.entry_count) (omega (arith, fewer))
-          (read_then _ _ _ (range_with_len (table_place header) number) number 1 (length-range_with_len (table_place header) number) c.loop-number.invariant.reads c.in_err-next.ensures.few),
-    )
+    let fault = c.in_err-told.field-0.0 in
+    let so_far = c.loop-alloc.invariant.reads in
+    let steps = 13 * length c.loop-alloc.leaf.prefix in
+    let fails = subst (λ (known : Option (List ℕ)). FailsNext version known header (g.B.Blocks.reads c.loop-alloc.blocks) (g.B.Blocks.reads c.entry_at.new.blocks) c.loop-alloc.read.items 13 fault) c.loop-alloc.invariant.same c.in_err-told.ensures.err in
+    let short : length c.loop-alloc.leaf.prefix < LIMIT = omega (arith, c.loop-alloc-test.true, c.len.ensures.length) in
+    err_is c.from_residual.result fault (FailsInTable version known header _ _) c.from_residual.ensures.1
+    (fails_within version known header _ _ [] (steps + 13) TABLE_READS fault (omega (arith, short)) (fails_later version known header _ _ _ [] c.loop-alloc.read.items steps 13 so_far fault fails))
 
-pub pass_all-requires-clause-short : goal.pass_all-requires-clause-short
-pass_all-requires-clause-short g c =
-    subst (AllByRecursion (λ (item : FileEntry). length item.prefix < LIMIT)) (sym c.deref.ensures.value) (all_short c.args.version c.in_ok-next.next.items c.in_ok-next.ensures.ok.2.valid)
-
-pub loop-number-preserved : goal.loop-number-preserved
-loop-number-preserved g c =
+pub loop-alloc-preserved : goal.loop-alloc-preserved
+loop-alloc-preserved g c =
     let header = c.args.header.now in
+    let version = file_version c.args.version in
     let known = g.B.Blocks.known c.args.blocks.now in
-    let number = c.loop-number.number in
-    let so_far = c.loop-number.invariant.so_far in
-    let entries = so_far.0 in
-    let next = c.in_ok-next.next.items in
-    let ward = c.ward_number-ward.result in
-    let bits = few_wards header.settings.ward_bits c.requires.header.wards in
-    let fewer : number < table_blocks header.entry_count = c.loop-number-test.true in
-    let inside : 254 * number < header.entry_count = omega (arith, fewer) in
-    let place : c.table_place-place.result + number ≡ table_place header + number = ap (λ (place : ℕ). place + number) c.table_place-place.ensures.place in
-    let len : length next ≡ min 254 (header.entry_count - 254 * number) = omega (arith, c.in_ok-next.ensures.count, c.min-more.ensures, c.in_ok-next.next.ok.0) in
-    let block = subst (λ (place : ℕ). IsTableBlock (layout c.args.version) known place next) place
-    (subst (λ (known : Option (List ℕ)). IsTableBlock (layout c.args.version) known (c.table_place-place.result + number) next) c.loop-number.invariant.same c.in_ok-next.ensures.ok) in
-    let rising = subst (λ (before : Option (List Bool)). AreRising (option_to_list before ++ prefixes_of next)) so_far.2 c.in_ok-next.ensures.rising in
-    let front = block_more (file_version c.args.version) known header number entries next so_far.1 inside block len rising in
-    let short = all_short c.args.version next c.in_ok-next.ensures.ok.2.valid in
+    let leaf = c.loop-alloc.leaf in
+    let so_far = c.loop-alloc.invariant.reads in
+    let on_way = c.loop-alloc.invariant.on_way in
+    let come = c.loop-alloc.invariant.come in
+    let same = c.loop-alloc.invariant.same in
+    let steps = 13 * length leaf.prefix in
+    let short : length leaf.prefix < LIMIT = omega (arith, c.loop-alloc-test.true, c.len.ensures.length) in
+    let on = subst (λ (known : Option (List ℕ)). ReadsOn version known header (g.B.Blocks.reads c.loop-alloc.blocks) (g.B.Blocks.reads c.entry_at.new.blocks) c.loop-alloc.read.items c.entry_at.new.read.items 13) same c.in_ok-told.ensures.reads in
+    let right = c.in-Some.right in
+    let bit = c.next_bit.result in
+    let splits = subst (λ (blocks : List TableBlock). HasComeTo blocks header c.args.pseudokey come.0 leaf) (sym on.joined) (come_more c.loop-alloc.read.items on.more header c.args.pseudokey come.0 leaf come.1) in
+    let told : TellsRight c.entry_at.new.read.items header c.args.pseudokey leaf.prefix (Some right) =
+    (c.in_ok-told.told, c.in_ok-told.ensures.tells, ap (λ (ward : ℕ). right_told ward c.in_ok-told.told) (sym c.ward_number-ward.ensures) ∙ sym c.right_told.ensures ∙ c.in-Some.is) in
+    let next : c.step-leaf.result ≡ step leaf (get_or (word_bits c.args.pseudokey) (length leaf.prefix) false) right = c.step-leaf.ensures ∙ ap (λ (bit : Bool). step leaf bit right) c.next_bit.ensures in
+    let longer : length c.step-leaf.result.prefix ≡ length leaf.prefix + 1 = ap (λ (leaf : Leaf). length leaf.prefix) next ∙ length_push leaf.prefix (get_or (word_bits c.args.pseudokey) (length leaf.prefix) false) in
     record {
-      same = c.in_ok-next.ensures.same_bytes ∙ c.loop-number.invariant.same;
-      reads = subst (Appends _ _) (ap (λ (last : ℕ). range_with_len (table_place header) number ++ last ∷ []) place ∙ sym (range_more (table_place header) number))
-          (Appends-trans _ _ _ (range_with_len (table_place header) number) _ c.loop-number.invariant.reads c.in_ok-next.ensures.one_read);
-      on_way = c.pass_all.ensures.on_way;
-      so_far = (
-        entries ++ next,
-        front,
-        c.note_last.ensures ∙ ap (last_prefix c.loop-number.before) c.deref-in-loop-number.ensures.value ∙ ap (λ (before : Option (List Bool)). last_prefix before next) so_far.2 ∙ sym (last_of_join None entries next),
-        c.pass_all.ensures.passed ∙ ap (passed_all ward c.args.pseudokey c.loop-number.leaf) c.deref.ensures.value ∙ ap (λ (leaf : Leaf). passed_all ward c.args.pseudokey leaf next) so_far.3
-            ∙ sym (walk_more entries next ward header.settings.ward_bits c.args.pseudokey (omega (arith, bits)) short front.rising),
-      );
+      same = c.in_ok-told.ensures.same_bytes ∙ same;
+      on_way = subst (IsOnWay c.args.pseudokey) (sym next) (step_on_way c.args.pseudokey leaf (get_or (word_bits c.args.pseudokey) (length leaf.prefix) false) right on_way short refl);
+      come = (suc come.0, (leaf, splits, short, right, told, next));
+      reads = read_within version known header _ _ [] c.entry_at.new.read.items (steps + 13) _ (omega (arith, longer)) (read_more version known header _ _ _ [] c.loop-alloc.read.items steps 13 so_far c.entry_at.new.read.items on);
     }
+
+pub returns-in-None-clause-ok : goal.returns-in-None-clause-ok
+returns-in-None-clause-ok g c =
+    let header = c.args.header.now in
+    let version = file_version c.args.version in
+    let known = g.B.Blocks.known c.args.blocks.now in
+    let leaf = c.loop-alloc.leaf in
+    let so_far = c.loop-alloc.invariant.reads in
+    let come = c.loop-alloc.invariant.come in
+    let same = c.loop-alloc.invariant.same in
+    let steps = 13 * length leaf.prefix in
+    let short : length leaf.prefix < LIMIT = omega (arith, c.loop-alloc-test.true, c.len.ensures.length) in
+    let on = subst (λ (known : Option (List ℕ)). ReadsOn version known header (g.B.Blocks.reads c.loop-alloc.blocks) (g.B.Blocks.reads c.entry_at.new.blocks) c.loop-alloc.read.items c.entry_at.new.read.items 13) same c.in_ok-told.ensures.reads in
+    let splits = subst (λ (blocks : List TableBlock). HasComeTo blocks header c.args.pseudokey come.0 leaf) (sym on.joined) (come_more c.loop-alloc.read.items on.more header c.args.pseudokey come.0 leaf come.1) in
+    let told : TellsRight c.entry_at.new.read.items header c.args.pseudokey leaf.prefix None =
+    (c.in_ok-told.told, c.in_ok-told.ensures.tells, ap (λ (ward : ℕ). right_told ward c.in_ok-told.told) (sym c.ward_number-ward.ensures) ∙ sym c.right_told.ensures ∙ c.in-None.is) in
+    let all = read_within version known header _ _ [] c.entry_at.new.read.items (steps + 13) TABLE_READS (omega (arith, short)) (read_more version known header _ _ _ [] c.loop-alloc.read.items steps 13 so_far c.entry_at.new.read.items on) in
+    names_page version known header c.args.pseudokey _ _ c.entry_at.new.read.items leaf all (record { splits = come.0; come = splits; ends = inr told })
+
+pub returns-clause-ok : goal.returns-clause-ok
+returns-clause-ok g c =
+    let header = c.args.header.now in
+    let version = file_version c.args.version in
+    let known = g.B.Blocks.known c.args.blocks.now in
+    let leaf = c.loop-alloc.leaf in
+    let come = c.loop-alloc.invariant.come in
+    let long : LIMIT ≤ length leaf.prefix = omega (arith, c.loop-alloc-test.false, c.len.ensures.length) in
+    let all = read_within version known header _ _ [] c.loop-alloc.read.items (13 * length leaf.prefix) TABLE_READS (omega (arith, c.loop-alloc.invariant.on_way.short)) c.loop-alloc.invariant.reads in
+    names_page version known header c.args.pseudokey _ _ c.loop-alloc.read.items leaf all (record { splits = come.0; come = come.1; ends = inl long })

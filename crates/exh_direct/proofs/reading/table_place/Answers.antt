@@ -1,6 +1,6 @@
 use Rattle.std.proofs.Common.{arith}
 use Rattle.exh_direct.proofs.Tables.{few_pages}
-use Rattle.exh_direct.proofs.named.table_place.Goals as goal
+use Rattle.exh_direct.proofs.reading.table_place.Goals as goal
 
 pub total-requires : goal.total-requires
 total-requires c = omega (arith, few_pages c.args.header.now c.requires)
