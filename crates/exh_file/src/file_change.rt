@@ -1,4 +1,4 @@
-ghost use Rattle.std.specs.Prelude.{◌≡◌, IfOk, IfErr, OnErr};
+ghost use Rattle.std.specs.Prelude.{◌≡◌, IfOk, IfErr};
 ghost use Rattle.exh_file.specs.FileChange.{ChangesOneMap, IsChangedIn};
 ghost use Rattle.exh_file.specs.Opened.{AreWardsOf, in_file, settings_in};
 ghost use Rattle.exh_ward.specs.WardFault.{IsStoreFault};

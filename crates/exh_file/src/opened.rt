@@ -1,4 +1,4 @@
-ghost use Rattle.std.specs.Prelude.{◌≡◌, ◌↔◌, ℕ, IfErr, IfOk, IsTrue};
+ghost use Rattle.std.specs.Prelude.{◌≡◌, ◌↔◌, IfErr, IfOk, IsTrue};
 ghost use Rattle.exh_file.specs.Opened.{AreWardsOf, IsWardOf, OpenedState, in_file, settings_in};
 ghost use Rattle.exh_file.specs.Saved.{header_of};
 

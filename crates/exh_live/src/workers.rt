@@ -1,8 +1,7 @@
 //! The workers of a storm before it begins.
-ghost use Rattle.std.specs.Prelude.{◌≡◌, ◌+◌, ◌<◌, ◌≤◌, ◌*◌, [], vec_len, OnOk, IfOk};
+ghost use Rattle.std.specs.Prelude.{◌≡◌, ◌+◌, ◌<◌, ◌≤◌, [], vec_len, OnOk, IfOk};
 ghost use Rattle.std.specs.FinMap as map;
 ghost use Rattle.exh_prefix.specs.declared.prefix.TheConstants.{WARD_BITS_LIMIT};
-ghost use Rattle.exh_calls.specs.declared.diary.TheConstants.{CALLER_LIMIT};
 ghost use Rattle.exh_live_file.specs.CursorPlaceLemmas.{AreFirst};
 ghost use Rattle.exh_settings.specs.StormConfig.{IsStormConfig};
 

@@ -1,9 +1,7 @@
 ghost use Rattle.std.specs.Prelude.{◌≡◌, ◌≤◌, IfOk};
 ghost use Rattle.exh_keyer.specs.Pseudokey.{any_pseudokey};
-ghost use Rattle.exh_file.specs.Opened.{AreWardsOf};
 ghost use Rattle.exh_page.specs.declared.page.TheConstants.{CAP_LIMIT};
 ghost use Rattle.exh_prefix.specs.declared.prefix.TheConstants.{WARD_BITS_LIMIT};
-ghost use Rattle.exh_script.specs.Text.{new_file};
 ghost use Rattle.exh_script.specs.Left.{file_left};
 ghost use Rattle.exh_script.specs.OpenedScript.{beginning, is_of_file, opened_file};
 ghost use Rattle.exh_world.specs.NewWorld.{settings_of};

@@ -1,5 +1,4 @@
 ghost use Rattle.std.specs.Prelude.{◌≡◌};
-ghost use Rattle.exh_world.specs.Sound.{IsSoundWorld};
 
 use crate::in_flight::InFlight;
 use exh_array::Copies;
@@ -36,7 +35,7 @@ pub struct World<P: Pages + Drop, K: Keyer> {
 }
 
 impl<P: Pages + Drop, K: Keyer> Model for World<P, K> {
-    ghost use Rattle.std.specs.Prelude.{◌≡◌, ◌≤◌, ◌<◌, ◌^◌, length};
+    ghost use Rattle.std.specs.Prelude.{◌≡◌, ◌<◌};
     ghost use Rattle.std.specs.Coded.{codes};
     ghost use Rattle.exh_page.specs.KeyMap.{coded_key_map};
     ghost use Rattle.exh_table.specs.Table.{coded_table};
