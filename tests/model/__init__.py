@@ -13,7 +13,11 @@ walk names, is worked out from these each time.
     grammar        the words of lines, and how values are printed
     script         what each line prints
     page_file      the bytes of a page file, and what `check`, `dump`, `pairs` and `load` print
+    page_reader    what its blocks and pages say, or their first fault
+    legal          its pages and entries, and the six reasons for which they are no file
     file_reader    what the bytes of a page file say, or their first fault
+    placed_file    the bytes of a page file of version 3
+    placed_reader  what these say, or their first fault
     command_line   the words behind a command
     program        what the program does with its words: what it prints, its status, and the files it leaves
 
@@ -24,6 +28,14 @@ The others make scripts by chance, and run the program over them.
     hostile_lines  each line of the grammar, and what stands next to it
     other_files    page files that no run saves
     hostile_files  page files by chance with faults in them, for tests/turned_files
+    broken_files   such files of version 3, for tests/broken_files
+    broken_ways    how they are broken
+    crowded_files  files of version 3 with several faults, of which it is told which is first
+    drafts         a file of version 3 taken apart and put together
+    many_pages     files of thousands of empty pages
+    placed_examples  the files of version 3 that are written out, and what is told of their bytes turned
+    spawned        runs of the program in a folder of memory
+    sweeps         parts of many runs by workers at once
     stories        runs that belong together
     runs           runs the program, and names the first line that differs
     counts         what must have come up

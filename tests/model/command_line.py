@@ -1,7 +1,7 @@
 """The words behind a command: which stand at its places, and what its options are given."""
 
 from .grammar import WrongLine, call_of, is_call_in_range, number_of
-from .version import CAP_LIMIT, WARD_BITS_LIMIT
+from .version import CAP_LIMIT, CURRENT, PLACED, WARD_BITS_LIMIT
 
 ANY_FURTHER = "--"
 KEYERS = ("sha", "plain")
@@ -62,6 +62,15 @@ def pairing_of(words):
     if len(places) != 1:
         raise WrongWords
     return places[0], {name: OPTIONS[name](value) for name, value in options.items()}
+
+
+def converting_of(words):
+    """The two paths that the words of `convert` name, and the version."""
+    places, options = parted(words, ["version"])
+    version = options.get("version", str(PLACED.number))
+    if len(places) != 2 or version not in (str(CURRENT.number), str(PLACED.number)):
+        raise WrongWords
+    return *places, int(version)
 
 
 def calling_of(command, words):

@@ -1,6 +1,7 @@
 """What must have come up in the runs of the usual number of scripts, and how often."""
 
 from .grammar import FORMS
+from .to_come import HAS_PLACED
 
 LEAST = 100
 CALLS = ("get", "put", "del", "swap")
@@ -32,6 +33,7 @@ REFUSED_SCRIPTS = tuple(f"script refused {number}" for number in (60, 61, 62, 63
 FAULTS = (*range(30, 40), *(f"40 reason {reason}" for reason in range(1, 7)))
 DAMAGED_FILES = ("damaged file that is legal", *(f"damaged file refused {fault}" for fault in FAULTS))
 OPENED = ("opened file", "opened file that no run saved", "opened file of the first version")
+SAVED_AGAIN = ("file saved where it was opened", "file that a load goes into")
 # What the commands of one key come to.
 OF_ONE_KEY = {
     "get": ("found", "absent"),
@@ -40,8 +42,15 @@ OF_ONE_KEY = {
     "swap": ("swapped", "differs", "none"),
 }
 CALLS_OVER_FILES = tuple(f"{command} of a file: {it}" for command, ends in OF_ONE_KEY.items() for it in ends)
+# What must have come up too where the program has files of version 3.
+OF_PLACED = (
+    "opened file of version 3",
+    "call over a file of version 3",
+    "file converted there and back",
+    *(name.replace("file", "file of version 3", 1) for name in SAVED_AGAIN),
+)
 GETS_OF_DAMAGED = tuple(f"damaged file of which a get is {it}" for it in ("refused", "answered"))
-FILES = ("saved file", *OPENED, "loaded file", "file told by check")
+FILES = ("saved file", *OPENED, *SAVED_AGAIN, "loaded file", "file told by check")
 LOADED_AGAIN = tuple(f"text of pairs loaded with {it}" for it in ("the same pairs", "a smaller cap or another keyer"))
 PAIRS = ("text of pairs told by pairs", *LOADED_AGAIN)
 TEXTS = ("file told by dump", "pair dumped", "full pair of a load", "refused line of a load", *PAIRS)
@@ -53,7 +62,8 @@ def wanted():
     words = ("file", "begin", *FORMS, "another word")
     refusals = [f"refused {number} of {word}" for word in words for number in (*REFUSALS.get(word, ()), 60)]
     of_scripts = [*lines, *refusals, *OUTCOMES, *PLACES, *COPIES, *SETTINGS, *REFUSED_SCRIPTS]
-    return [*of_scripts, *FILES, *TEXTS, *CALLS_OVER_FILES, *DAMAGED_FILES, *GETS_OF_DAMAGED]
+    of_files = [*FILES, *TEXTS, *CALLS_OVER_FILES, *DAMAGED_FILES, *GETS_OF_DAMAGED]
+    return [*of_scripts, *of_files, *(OF_PLACED if HAS_PLACED else ())]
 
 
 def printed_counts(met):

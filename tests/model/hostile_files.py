@@ -13,7 +13,7 @@ from typing import NamedTuple
 
 from .bits import low_bound
 from .file import File
-from .file_reader import Fault, file_of
+from .file_reader import file_of
 from .other_files import (
     WAYS,
     altered,
@@ -38,8 +38,9 @@ from .page_file import (
     check_text,
     sealed,
 )
+from .page_reader import Fault
 from .tables import Entry, Kind
-from .version import CAP_LIMIT, FIRST, KEY_LIMIT, KNOWN, LIMIT, NUMBER_LIMIT, VALUE_LIMIT
+from .version import CAP_LIMIT, FIRST, KEY_LIMIT, KNOWN, LIMIT, NUMBER_LIMIT, PLACED, VALUE_LIMIT
 
 # Right files that changes are made to, and how many splits and merges each of one ward had at most.
 RIGHT_FILES = 400
@@ -215,7 +216,7 @@ def with_an_entry_by_chance(dice, content):
 def in_another_version(dice, content):
     """The file with the number of a version that is read, or of one that isn't."""
     header = block_of(content, 0)
-    header[8:10] = dice.choice((*(version.number for version in KNOWN), 0, 3)).to_bytes(2, "big")
+    header[8:10] = dice.choice((*(version.number for version in KNOWN), 0, PLACED.number, 4)).to_bytes(2, "big")
     return with_block(content, 0, sealed(bytes(header)))
 
 

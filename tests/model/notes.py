@@ -2,9 +2,10 @@
 
 import collections
 
-from .file_reader import Fault, file_of
+from .file_reader import file_of
 from .grammar import FORMS, MOVES, WrongLine, bytes_of, number_of, settings_of
 from .page_file import Load
+from .page_reader import Fault
 from .script import Script
 from .version import (
     CAP_LIMIT,
@@ -148,10 +149,10 @@ def differing(settings, opened):
     return [f"exhash: {one} in the script, {other} in the opened file" for one, other in pairs if one != other]
 
 
-def notes_of_pairs(content):
-    """Of a load of pairs."""
-    notes, load = Notes(), Load()
-    if len(content) > SCRIPT_LIMIT:
+def notes_of_pairs(content, opened=None):
+    """Of a load of pairs, into a file that is opened or a new one."""
+    notes, load = Notes(), Load(opened)
+    if opened is None and len(content) > SCRIPT_LIMIT:
         return (TOO_LONG + "\n").encode()
     settings = None
     for at, line in numbered(content):
@@ -181,14 +182,18 @@ def options_of(words):
 
 def notes_of(words, given, files):
     """What standard error has of a run that the documents allow, with its files before; of each that is opened the bytes."""
+    name = None
     match words:
+        case ["load", "--into", name]:
+            notes_of_given = notes_of_pairs
         case ["load", *_]:
-            return notes_of_pairs(given)
+            notes_of_given = notes_of_pairs
         case ["serve", *options]:
-            name = options_of(options).get("--open")
-            try:
-                opened = None if name is None else file_of(files[name])
-            except Fault:
-                return b""
-            return notes_of_script(given, opened)
-    return b""
+            notes_of_given, name = notes_of_script, options_of(options).get("--open")
+        case _:
+            return b""
+    try:
+        opened = None if name is None else file_of(files[name])
+    except Fault:
+        return b""
+    return notes_of_given(given, opened)

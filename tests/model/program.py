@@ -2,11 +2,15 @@
 
 from typing import NamedTuple
 
-from .command_line import WrongWords, calling_of, pairing_of
-from .file_reader import READ, Fault, file_of, value_in
+from .command_line import WrongWords, calling_of, converting_of, pairing_of
+from .file_reader import file_of, value_in
 from .grammar import printed
 from .page_file import MAGIC, bytes_of_file, check_text, dump_text, load_of, pairs_text, put
+from .page_reader import READ, Fault
+from .placed_file import DRAWN, is_placed, placed_file, stamp_after, stamps_of
+from .placed_reader import PlacedReader
 from .script import text_of
+from .version import PLACED
 
 # What stands behind a place's name in that of the file beside it, and for where that is another's, in those of others.
 BESIDE = ".exhash-saving"
@@ -50,7 +54,9 @@ def outcome_of_right(words, given, files):
             return ended(lines, load, files, name)
         case ["load", "--into", name]:
             lines, load = load_of(given, file_of(content_at(name, files)))
-            return ended(lines, load, files, name)
+            return ended(lines, load, files, name, name)
+        case ["convert", *spelled]:
+            return converted(*converting_of(spelled), files)
         case [("put" | "del" | "swap") as command, *spelled]:
             return changed(*calling_of(command, spelled), files)
         case ["serve", *options]:
@@ -78,22 +84,42 @@ def changed(name, call, files):
     lines = [" ".join([reply.word] + ([] if reply.value is None else [printed(reply.value)]))]
     if reply.word not in DONE:
         return Outcome(lines, 3, files)
-    outcome = saved(lines, bytes_of_file(file.opened()), files, name)
+    outcome = saved(lines, bytes_again(file.opened(), files[name]), files, name)
     return outcome._replace(lines=[]) if outcome.status else outcome
+
+
+def converted(name, new, version, files):
+    """The file of a name, of any version, as one of a version at a place where nothing is."""
+    file = file_of(content_at(name, files))
+    if files.get(new):
+        return Outcome([], 1, files)
+    return saved([], placed_file(file, DRAWN) if version == PLACED.number else bytes_of_file(file), files, new)
+
+
+def bytes_again(file, opened):
+    """The bytes of a file that is saved where it was opened: of version 3 where it was."""
+    if not is_placed(opened):
+        return bytes_of_file(file)
+    # Each page keeps its place, and those that are new stand behind them, ward by ward.
+    old = PlacedReader(opened).placed().wards()
+    more = [ward.number for ward in file.wards for _ in range(len(ward.lows) - old.count(ward.number))]
+    before, _ = stamps_of(opened)
+    return placed_file(file, (stamp_after(before), before), old[len(file.wards) :] + more)
 
 
 def served(options, given, files):
     """A script over the file that is opened, or a new one."""
     opened = file_of(content_at(options["--open"], files)) if "--open" in options else None
     lines, script = text_of(given, opened)
-    return ended(lines, script, files, options.get("--save"))
+    return ended(lines, script, files, options.get("--save"), options.get("--open"))
 
 
-def ended(lines, run, files, name):
-    """The end of a script or a load, whose file is saved where there is a name for it."""
-    if run.is_refused:
-        return Outcome(lines, 1, files)
-    return saved(lines, bytes_of_file(run.left()), files, name) if name else Outcome(lines, 0, files)
+def ended(lines, run, files, name, opened=None):
+    """The end of a script or a load, whose file is saved where there is a name for it, maybe that which was opened."""
+    if run.is_refused or not name:
+        return Outcome(lines, int(run.is_refused), files)
+    content = bytes_again(run.left(), files[name]) if name == opened else bytes_of_file(run.left())
+    return saved(lines, content, files, name)
 
 
 def saved(lines, content, files, name):

@@ -6,7 +6,8 @@ import tempfile
 from pathlib import Path
 
 from .notes import notes_of
-from .page_file import BLOCK
+from .page_file import BLOCK, CONTENT, sealed
+from .placed_file import is_placed, stamps_of, with_stamps
 
 SECONDS = 60
 ENVIRONMENT = {"PATH": "/usr/local/bin:/usr/bin:/bin", "LANG": "C.UTF-8"}
@@ -14,11 +15,13 @@ ENVIRONMENT = {"PATH": "/usr/local/bin:/usr/bin:/bin", "LANG": "C.UTF-8"}
 
 def difference_in(program, story):
     """What is told of the first run that differs; nothing where none does."""
+    was = {}
     with tempfile.TemporaryDirectory(prefix="exhash-story-") as folder:
         for number, run in enumerate(story.runs, 1):
             for name, content in run.laid.items():
                 (Path(folder) / name).write_bytes(content)
-            found = difference_in_run(program, run, Path(folder))
+            kept = {name for name, content in run.files.items() if (was | run.laid).get(name) == content}
+            found, was = difference_in_run(program, run, Path(folder), kept=kept), run.files
             if found:
                 return [f"run {number}, `{' '.join(run.words)}`: {found[0]}", *found[1:]]
     return []
@@ -41,9 +44,13 @@ def difference_in_images(program, story, sizes):
     return []
 
 
-def difference_in_run(program, run, folder, words=None):
-    """In what a run differs from what it must come to, where it is asked by its own words or by others."""
-    error = notes_of(run.words, run.given, {file.name: file.read_bytes() for file in folder.iterdir()})
+def difference_in_run(program, run, folder, words=None, kept=()):
+    """In what a run differs from what it must come to, where it is asked by its own words or by others.
+
+    The files of the names that are kept must be as they were.
+    """
+    before = {file.name: file.read_bytes() for file in folder.iterdir()}
+    error = notes_of(run.words, run.given, before)
     how = {"cwd": folder, "env": ENVIRONMENT, "input": run.given, "capture_output": True, "timeout": SECONDS}
     try:
         ended = subprocess.run([program, *(run.words if words is None else words)], check=False, **how)
@@ -53,7 +60,7 @@ def difference_in_run(program, run, folder, words=None):
     if not found and ended.returncode != run.status:
         found = [f"status: wanted {run.status}, got {ended.returncode}"]
     found = found or difference_in_error(error, ended.stderr)
-    return found or difference_in_files(run.files, folder)
+    return found or difference_in_files(run.files, before, kept, folder)
 
 
 def difference_in_error(wanted, got):
@@ -84,14 +91,28 @@ def script_up_to(told):
     return [f"    {repr(line)[2:-1]}" for line, _ in told if line]
 
 
-def difference_in_files(wanted, folder):
-    """The first file that differs, and from which byte on."""
+def with_stamps_wanted(wanted, before, got):
+    """A file of version 3 with the stamps that are wanted, where its own is another than before, and the old one stands
+    before it, or, where no file was there, both are drawn; else as it is."""
+    own, one_before = stamps_of(got)
+    old = one_before if before is None else stamps_of(before)[0]
+    is_drawn = own != old == one_before and sealed(got[:CONTENT]) == got[:BLOCK]
+    return with_stamps(got, stamps_of(wanted)) if is_drawn else got
+
+
+def difference_in_files(wanted, before, kept, folder):
+    """The first file that differs, and from which byte on; of those before, some must be as they were.
+
+    Where one of version 3 was saved its stamps are those that were drawn.
+    """
     got = {file.name: file.read_bytes() for file in folder.iterdir()}
     for name in sorted({*wanted, *got}):
         if name not in got or name not in wanted:
             return [f"file {name}: " + ("it isn't there" if name in wanted else "it should not be there")]
-        if got[name] != wanted[name]:
-            pairs = itertools.zip_longest(wanted[name], got[name])
-            at = next(at for at, (one, other) in enumerate(pairs) if one != other)
+        want, content = before[name] if name in kept else wanted[name], got[name]
+        if name not in kept and is_placed(want) and is_placed(content):
+            content = with_stamps_wanted(want, before.get(name), content)
+        if content != want:
+            at = next(at for at, (one, other) in enumerate(itertools.zip_longest(want, content)) if one != other)
             return [f"file {name}: block {at // BLOCK} differs from byte {at % BLOCK} on"]
     return []

@@ -5,6 +5,7 @@ import random
 from dataclasses import dataclass, field
 from typing import NamedTuple
 
+from .broken_ways import broken
 from .dice import (
     COPIES,
     WRONG_BYTES,
@@ -21,7 +22,9 @@ from .dice import (
 from .file_reader import file_of
 from .other_files import damaged, strange
 from .page_file import bytes_of_file, has_room
-from .program import outcome_of
+from .placed_file import is_placed, placed_file, shuffled
+from .program import bytes_again, outcome_of
+from .to_come import HAS_PLACED
 from .version import CURRENT, FIRST, KEY_LIMIT, LIMIT, SCRIPT_LIMIT, VALUE_LIMIT
 from .writer import Writer
 
@@ -111,7 +114,13 @@ class Teller:
         if self.chance(15):
             self.add(words, given, writer.told, 0, self.files)
             return None
-        saved = bytes_of_file(writer.script.left())
+        left = writer.script.left()
+        if source and self.chance(80 if is_placed(self.files[source]) else 25):
+            name, saved = source, bytes_again(left, self.files[source])
+            self.story.met["file saved where it was opened"] += 1
+            self.story.met["file of version 3 saved where it was opened"] += is_placed(saved)
+        else:
+            saved = bytes_of_file(left)
         self.add([*words, "--save", name], given, writer.told, 0, self.files | {name: saved})
         self.story.met["saved file"] += 1
         self.report(name)
@@ -120,16 +129,34 @@ class Teller:
     def source_of(self, name):
         """The file to be opened: the one that was saved, or a strange one."""
         self.story.met["opened file"] += 1
-        if self.chance(60):
+        if self.chance(40):
             return name
         self.story.met["opened file that no run saved"] += 1
-        file = strange(self.dice, file_of(self.files[name]))
-        version = FIRST if has_room(file, FIRST) and self.chance(90) else CURRENT
-        self.story.met["opened file of the first version"] += version is FIRST
-        content = bytes_of_file(file, version)
+        content = self.in_a_version(strange(self.dice, file_of(self.files[name])))
         for _ in range(self.dice.randrange(3)):
             self.call_over(self.lay("changed.exh", content))
+        if self.chance(60):
+            self.load_into(self.lay("changed.exh", content))
         return self.lay(f"strange-{len(self.story.runs)}.exh", content)
+
+    def in_a_version(self, file):
+        """The bytes of a file in a version that may have it; of version 3 its pages are born in any order."""
+        if HAS_PLACED and self.chance(40):
+            self.story.met["opened file of version 3"] += 1
+            stamps = self.dice.randbytes(8), self.dice.randbytes(8)
+            return placed_file(file, stamps, shuffled(self.dice, file))
+        version = FIRST if has_room(file, FIRST) and self.chance(90) else CURRENT
+        self.story.met["opened file of the first version"] += version is FIRST
+        return bytes_of_file(file, version)
+
+    def load_into(self, name):
+        """A load of pairs into a file that is there."""
+        file = file_of(self.files[name])
+        settings = f"file cap={file.cap} wards={file.ward_bits} copies=1 keyer={file.keyer}"
+        pairs = [self.pair().encode("latin-1") for _ in range(self.dice.randrange(PAIRS))]
+        self.ask(["load", "--into", name], self.joined([settings.encode(), *pairs]))
+        self.story.met["file that a load goes into"] += 1
+        self.story.met["file of version 3 that a load goes into"] += is_placed(self.files[name])
 
     def joined(self, lines):
         """The bytes of a text: an empty line among the others, and maybe no newline at the end."""
@@ -146,6 +173,8 @@ class Teller:
                 self.story.met["pair dumped"] += sum(line.startswith("pair") for line in lines)
         if self.chance(50):
             self.pair_again(name)
+        if HAS_PLACED and self.chance(40):
+            self.convert(name)
         for _ in range(self.dice.randint(0, CALLS)):
             self.call_over(name)
         for _ in range(self.dice.randint(0, DAMAGED)):
@@ -165,9 +194,19 @@ class Teller:
             raise ValueError(f"other pairs after `pairs` and `load` of {name}")
         self.story.met["text of pairs loaded with the same pairs"] += 1
 
+    def convert(self, name):
+        """A file that was saved, converted to version 3, told there, changed, and converted to version 2."""
+        placed, again = (f"{it}-{len(self.story.runs)}.exh" for it in ("placed", "again"))
+        self.ask(["convert", name, placed, *self.dice.choice(([], ["--version", "3"]))])
+        self.ask([self.dice.choice(("check", "dump", "pairs")), placed])
+        self.call_over(placed)
+        self.ask(["convert", placed, again, "--version", "2"])
+        self.story.met["file converted there and back"] += 1
+
     def call_over(self, name):
         """A call of one key of a file, by the command of its name."""
         command = self.dice.choice(("get", "put", "put", "del", "swap"))
+        self.story.met["call over a file of version 3"] += is_placed(self.files[name])
         lines = self.ask(self.call_words(command, name, file_of(self.files[name])))
         of_get = "found" if lines else "absent"
         self.story.met[f"{command} of a file: {of_get if command == 'get' else lines[0].split(' ')[0]}"] += 1
@@ -189,7 +228,7 @@ class Teller:
 
     def damage(self, content):
         """Runs over a damaged file, which is refused, or is another one."""
-        name = self.lay("damaged.exh", damaged(self.dice, content))
+        name = self.lay("damaged.exh", (broken if is_placed(content) else damaged)(self.dice, content))
         file = file_of(content)
         if self.chance(40):
             self.ask(self.call_words("get", name, file))

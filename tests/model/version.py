@@ -14,7 +14,9 @@ class Version(NamedTuple):
 FIRST = Version(number=1, limit=16, width=2)
 # The version whose limit the file keeps, and that is written.
 CURRENT = Version(number=2, limit=20, width=4)
-# Those that are read.
+# The version in which each page keeps its place, and whose entries stand in cells.
+PLACED = Version(number=3, limit=20, width=4)
+# Those whose entries stand in table blocks.
 KNOWN = (FIRST, CURRENT)
 LIMIT = CURRENT.limit
 

@@ -5,6 +5,7 @@
 Of what PROGRAM prints the last line of the kind is altered; or it is another kind of wrong end.
 """
 
+import hashlib
 import re
 import subprocess
 import sys
@@ -90,9 +91,12 @@ KINDS_OF_COMMANDS = {
 NAMES = (*KINDS, *(name for kinds in KINDS_OF_COMMANDS.values() for name in kinds))
 BYTE_TURNED, NOTHING_SAVED = "a byte turned in a saved file", "nothing saved"
 TURNED_BY_PUT = "a byte turned in the file of a put"
+STAMPS_KEPT = "a file of version 3 whose stamps aren't drawn"
 ANOTHER_STATUS, STANDARD_ERROR = "another status", "a word on standard error"
 # The byte of the file that is turned: one of a page block, behind its records and before its digest.
 TURNED = 4096 + 4000
+# Where the version and the stamps of a file of version 3 stand in its header, and where that ends.
+VERSION, STAMPS, CONTENT = slice(8, 10), slice(84, 100), 4064
 
 
 def altered(lines, kind, command="serve"):
@@ -112,9 +116,26 @@ def saved_by(words):
     return words[-1] if "--save" in words else None
 
 
-def spoil(words, kind):
+def with_stamps_of(before, after):
+    """The file with the stamps that it had before, where it is and was one of version 3."""
+    if not before[VERSION] == after[VERSION] == b"\0\3":
+        return after
+    header = bytearray(after[:CONTENT])
+    header[STAMPS] = before[STAMPS]
+    return bytes(header) + hashlib.sha256(header).digest() + after[CONTENT + 32 :]
+
+
+def content_before(words):
+    """The bytes of the file that a run with these words saves, as they are before it."""
+    place = saved_by(words)
+    return Path(place).read_bytes() if place is not None and Path(place).exists() else b""
+
+
+def spoil(words, kind, before):
     """Alters the file that was saved."""
     place = saved_by(words)
+    if place is not None and kind == STAMPS_KEPT:
+        Path(place).write_bytes(with_stamps_of(before, Path(place).read_bytes()))
     if place is not None and kind == (TURNED_BY_PUT if words[0] == "put" else BYTE_TURNED):
         content = bytearray(Path(place).read_bytes())
         content[TURNED] ^= 1
@@ -125,11 +146,12 @@ def spoil(words, kind):
 
 def main():
     program, kind, *words = sys.argv[1:]
+    before = content_before(words)
     ended = subprocess.run([program, *words], stdout=subprocess.PIPE, check=False)
     lines = altered(ended.stdout.decode("latin-1").split("\n"), kind, words[0])
     sys.stdout.buffer.write("\n".join(lines).encode("latin-1"))
     if not ended.returncode:
-        spoil(words, kind)
+        spoil(words, kind, before)
     if kind == STANDARD_ERROR:
         print("exhash:", file=sys.stderr)
     return ended.returncode + (kind == ANOTHER_STATUS)
