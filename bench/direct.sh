@@ -4,13 +4,14 @@
 #
 #   bench/direct.sh [RUNS]     the best of RUNS runs counts, 5 if left out
 #
-# The files are those of bench/file.sh: of one ward of cap 16, of 1,000, 10,000 and 60,000 pages, under the keyer plain.
-# gdbmtool has the same pairs, a key as its hexadecimal digits. A run is the gets of 100 keys that stand evenly in the
-# file, each a program of its own, by the processor that they take, the start of the program included. strace counts the
-# blocks that the get of each of ten keys reads: the header, the table's blocks and one page.
+# The files are those of bench/file.sh, and one more: of one ward of cap 16, of 1,000, 10,000, 60,000 and 300,000 pages,
+# under the keyer plain. gdbmtool has the same pairs, a key as its hexadecimal digits. A run is the gets of 100 keys that
+# stand evenly in the file, each a program of its own, by the processor that they take, the start of the program included.
+# strace tells which blocks the get of each of twenty of these keys reads: the header, blocks of the table and one page.
 #
-# Wanted: at most 2 times gdbmtool's time, at 60,000 pages, whose table has digests of its own, 4 times; and no block
-# more than the header, the table and one page. `pairs` at 60,000 pages, to nowhere: at most 1.3 times the digests' time.
+# Wanted: at most 2 times gdbmtool's time, at 60,000 pages 1.3 times; on average at most 24 blocks at 60,000 pages and 40
+# at 300,000, of the smaller files fewer than a table that is read whole takes; and no block twice. `pairs` at 60,000
+# pages, to nowhere: at most 1.3 times the digests' time.
 #
 # The long texts have 10 and 100 MiB, of pairs of keys of 12 bytes and values of 40, for `load --long` at keyer sha and
 # cap 16. gdbmtool stores the same pairs, without a lock and without synchronizing, and mdb_load of LMDB loads them. One
@@ -22,8 +23,8 @@ set -u
 export LC_ALL=C
 
 RUNS=${1:-5}
-# Pages, how many records it takes for as many, and how many times gdbmtool's time is wanted.
-SIZES=('1000 10929 2' '10000 112666 2' '60000 653903 4')
+# Pages, how many records it takes for as many, how many times gdbmtool's time is wanted, and how many blocks on average.
+SIZES=('1000 10929 2 6' '10000 112666 2 18' '60000 653903 1.3 24' '300000 3380501 2 40')
 KEYS=100
 # How many pages the file has of which the pairs are timed, and how many times the digests' time is wanted.
 PAIRS_OF=60000
@@ -140,7 +141,7 @@ time_load() {
 }
 
 for size in "${SIZES[@]}"; do
-    # shellcheck disable=SC2086 # Three words.
+    # shellcheck disable=SC2086 # Four words.
     set -- $size
     made=$("$timed" make "$folder/file.exh" "$2") || die "no file of $2 records could be made"
     [ "$made" = "$1" ] || die "$2 records make $made pages, not $1"
@@ -158,20 +159,24 @@ for size in "${SIZES[@]}"; do
         microseconds=${line%% *}
         [ -z "$rival" ] || [ "$microseconds" -lt "$rival" ] && rival=$microseconds
     done
-    entries=$("$program" check "$folder/file.exh" | awk '{ print $NF }')
-    due=$((2 + (entries + 253) / 254))
-    for key in $(head -n 10 "$folder/words"); do
-        read=$(strace -e trace=pread64 "$program" get "$folder/file.exh" "#$key" 2>&1 >/dev/null | grep -c '^pread64(.*, 4096, ')
-        if [ "$read" != "$due" ]; then
-            echo "FALLS SHORT: a get reads $read blocks at $1 pages, $due are due"
-            short=1
-        fi
-    done
-    awk -v pages="$1" -v own="$best" -v rival="$rival" -v wanted="$3" -v due="$due" -v keys="$KEYS" 'BEGIN {
-        printf "%6d pages: get %.2f ms, gdbmtool %.2f ms, %.2f times; %d blocks read\n", pages, own / keys / 1e3,
-            rival / keys / 1e3, own / rival, due
-        if (own > rival * wanted) {
-            printf "FALLS SHORT: get at %d pages: %.2f, at most %d is wanted\n", pages, own / rival, wanted
+    awk 'NR % 5 == 1' "$folder/words" | while read -r key; do
+        strace -e trace=pread64 "$program" get "$folder/file.exh" "#$key" 2>&1 >/dev/null |
+            sed -n "s/^pread64(.*, 4096, \([0-9]*\)) *= 4096$/$key \1/p"
+    done > "$folder/reads"
+    blocks=$(awk '{ keys[$1] = 1; read++ } END { for (key in keys) count++; if (count) printf "%.1f", read / count }' \
+        "$folder/reads")
+    [ -n "$blocks" ] || die 'strace tells no read'
+    twice=$(sort "$folder/reads" | uniq -d | wc -l)
+    if [ "$twice" != 0 ]; then
+        echo "FALLS SHORT: at $1 pages $twice blocks are read twice"
+        short=1
+    fi
+    awk -v pages="$1" -v own="$best" -v rival="$rival" -v wanted="$3" -v blocks="$blocks" -v most="$4" -v keys="$KEYS" 'BEGIN {
+        printf "%6d pages: get %.2f ms, gdbmtool %.2f ms, %.2f times; %.1f blocks read on average\n", pages,
+            own / keys / 1e3, rival / keys / 1e3, own / rival, blocks
+        if (own > rival * wanted || blocks > most) {
+            printf "FALLS SHORT: get at %d pages: %.2f and %.1f blocks, at most %.1f and %d are wanted\n", pages,
+                own / rival, blocks, wanted, most
             exit 1
         }
     }' || short=1
