@@ -6,3 +6,5 @@ pub mod Told
 pub mod CellLaws
 pub mod StampedHeader
 pub mod BlockLaws
+pub mod PlacedFile
+pub mod LegalPlaced
