@@ -1,6 +1,9 @@
 pub mod KnownBlocks
 pub mod DirectFault
+pub mod BlockFaultLemmas
 pub mod Way
 pub mod TableSearch
+pub mod OnWayLemmas
+pub mod OnceLemmas
 pub mod DirectAnswer
 pub mod DirectLaws

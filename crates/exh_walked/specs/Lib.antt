@@ -1,0 +1,3 @@
+pub mod WalkBlocks
+pub mod CellWalk
+pub mod PlacedAnswer
