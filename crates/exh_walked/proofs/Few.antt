@@ -36,7 +36,7 @@ no_walk place (group ∷ groups) =
     let apart = apart_by (page_block_of place) (walk_block_of group) (λ same. omega (arith, same)) in
     rw apart (no_walk place groups)
 
-places_by_group : (blocks : List WalkBlock) → places_in blocks ≡ map walk_block_of (groups_read blocks)
+pub places_by_group : (blocks : List WalkBlock) → places_in blocks ≡ map walk_block_of (groups_read blocks)
 places_by_group [] = refl
 places_by_group (block ∷ blocks) = ap (λ (places : List ℕ). walk_block_of block.group ∷ places) (places_by_group blocks)
 

@@ -1,5 +1,5 @@
 -- Walk blocks that a get of a page file of version 3 reads, each by its group.
-use Rattle.std.specs.Prelude.{◌≡◌, ◌⊎◌, ℕ, ◌-◌, ◌*◌, nat_eq, min, false, List, [], ◌∷◌, ◌++◌, Option, Some, length, map, slice_get}
+use Rattle.std.specs.Prelude.{◌≡◌, ◌⊎◌, ℕ, ◌-◌, ◌*◌, ◌<◌, nat_eq, min, false, List, [], ◌∷◌, ◌++◌, Option, Some, length, map, slice_get}
 use Rattle.std.specs.List.{AllByRecursion, IsDistinct, list_any, sum}
 use Rattle.std.specs.Io.KnownBytes.{Appends}
 use Rattle.exh_codec.specs.declared.image_fault.ImageFault.{ImageFault}
@@ -45,8 +45,9 @@ WalkFails count place block fault = (image : ImageFault) × IsFirst (PassesWalk 
 
 -- ---- blocks that were read
 
--- the walk block of its group
+-- the walk block of its group, which has pages
 pub record IsBlockOf (known : Option (List ℕ)) (header : StampedHeader) (block : WalkBlock) : Type 0 where
+  pub within : GROUP_PAGES * block.group < pages_in header
   pub count : length block.cells.items ≡ cells_in header block.group
   pub is : IsWalkBlock known (walk_block_of block.group) block.cells.items
 

@@ -1,6 +1,12 @@
-ghost use Rattle.std.specs.Prelude.{◌≡◌, ◌↔◌, IsTrue, IfOk, IfErr};
+ghost use Rattle.std.specs.Prelude.{◌≡◌, ◌↔◌, ℕ, List, Some, IsTrue, IfOk, IfErr, MatchResult};
+ghost use Rattle.exh_table.specs.Table.{TableMap};
 ghost use Rattle.exh_legal.specs.Pages.{IsHome};
+ghost use Rattle.exh_format.specs.Reading.{AreBytes};
+ghost use Rattle.exh_cells.specs.LegalPlaced.{IsLegalPlacedFile};
+ghost use Rattle.exh_cells.specs.PlacedFile.{PlacedFile};
+ghost use Rattle.exh_direct.specs.DirectLaws.{IsOtherFault};
 ghost use Rattle.exh_walked.specs.PlacedAnswer.{FindsPlaced, ReadsFew, RefusesPlaced};
+ghost use Rattle.exh_walked.specs.PlacedLaws.{FindsInPlaced};
 
 use crate::named::named_place;
 use crate::reading::read_header;
@@ -28,7 +34,16 @@ pub fn find_placed<B: Blocks>(
     ensures found { IfOk result (FindsPlaced (B.known blocks.old) key.now (B.reads blocks.old) (B.reads blocks.new)) }
     ensures refused { IfErr result (RefusesPlaced (B.known blocks.old) key.now (B.reads blocks.old) (B.reads blocks.new)) }
     ensures few { ReadsFew (B.reads blocks.old) (B.reads blocks.new) }
+    ensures legal { (file : PlacedFile) (tables : List TableMap) (bytes : List ℕ) → B.known blocks.old ≡ Some bytes → AreBytes bytes → IsLegalPlacedFile file tables bytes
+        → MatchResult result (FindsInPlaced file key.now (B.reads blocks.old) (B.reads blocks.new)) IsOtherFault }
 {
+    exh_codec::one_page();
+    exh_codec::images_pass();
+    exh_codec::images_are_blocks();
+    exh_cells::stamped_headers_pass();
+    exh_cells::walk_blocks_pass();
+    exh_cells::slots_are_entries();
+    exh_legal::walks_name_homes();
     find_on_way(alloc, blocks, key)
 }
 

@@ -21,6 +21,7 @@ returns-clause-taken g c =
     let place = c.walk_block-place.ensures in
     let block : WalkBlock = record { group = group; cells = c.in_ok-cells.cells } in
     let is : IsBlockOf known header block = record {
+      within = c.requires.within;
       count = omega (arith, c.in_ok-cells.ensures.count, c.min-cells.ensures, c.page_count.ensures, c.in_ok-cells.cells.ok.0);
       is = subst (λ (place : ℕ). IsWalkBlock known place c.in_ok-cells.cells.items) place c.in_ok-cells.ensures.ok;
     } in
