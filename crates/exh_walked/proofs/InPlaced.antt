@@ -1,5 +1,5 @@
 -- What is answered of a key of a legal file of version 3: nothing but its map.
-use Rattle.std.proofs.Common.{◌≡◌, ℕ, zero, suc, ◌+◌, ◌-◌, ◌*◌, ◌/◌, ◌%◌, ◌<◌, ◌≤◌, ◌^◌, min, Bool, List, [], ◌∷◌, ◌++◌, length, map, take, drop, get_or, slice_get, inl, inr, Option, None, Some, Result, Ok, Err, refl, sym, ap, ◌∙◌, subst, arith}
+use Rattle.std.proofs.Common.{◌≡◌, ℕ, ◌+◌, ◌*◌, ◌/◌, ◌%◌, ◌<◌, ◌^◌, List, [], ◌∷◌, length, take, drop, get_or, slice_get, inl, inr, Option, Some, Result, Ok, Err, sym, ap, ◌∙◌, subst, arith}
 use Rattle.std.specs.Prelude.{IfErr, IfOk, MatchResult}
 use Rattle.std.specs.List.{AllByRecursion}
 use Rattle.std.specs.FinMap.{empty, get}
@@ -11,7 +11,6 @@ use Rattle.exh_keyer.specs.Pseudokey.{any_pseudokey}
 use Rattle.exh_keyer.specs.PseudokeyFits.{any_pseudokey-lt}
 use Rattle.exh_prefix.specs.Bits.{word_bits}
 use Rattle.exh_prefix.specs.Leading.{ward_of, ward_prefix}
-use Rattle.exh_prefix.specs.LeadingLemmas.{length-leading_bits}
 use Rattle.exh_prefix.specs.Prefix.{Begins, low_of}
 use Rattle.exh_prefix.specs.Version.{Fits, second_version}
 use Rattle.exh_table.specs.declared.leaf.Leaf.{Leaf}
@@ -20,7 +19,7 @@ use Rattle.exh_table.specs.TableWalk.{walk_in, walk_of}
 use Rattle.exh_page.specs.declared.page.Page.{Page}
 use Rattle.exh_page.specs.declared.page.Page.TheVariants.{Live}
 use Rattle.exh_page.specs.declared.record.Record.{Record}
-use Rattle.exh_page.specs.Page.{low_bound, records_of}
+use Rattle.exh_page.specs.Page.{records_of}
 use Rattle.exh_page.specs.Records.{value_at}
 use Rattle.exh_legal.specs.Growth.{IsLiveAt}
 use Rattle.exh_legal.specs.LegalLaws.{WalksNameHomes}
@@ -45,7 +44,6 @@ use Rattle.exh_cells.specs.Places.{group_in, page_block_of, walk_block_of}
 use Rattle.exh_cells.specs.StampedHeader.{IsStampedImage}
 use Rattle.exh_cells.specs.WalkImage.{IsWalkImage}
 use Rattle.exh_direct.specs.declared.direct_fault.DirectFault.{DirectFault}
-use Rattle.exh_direct.specs.declared.direct_fault.DirectFault.TheVariants.{File, Astray, Read, Memory}
 use Rattle.exh_direct.specs.BlockFaultLemmas.{no_fault}
 use Rattle.exh_direct.specs.DirectLaws.{IsOtherFault}
 use Rattle.exh_direct.specs.KnownBlocks.{BlockFails}
@@ -54,13 +52,13 @@ use Rattle.exh_walked.specs.declared.walk_block.WalkBlock.{WalkBlock}
 use Rattle.exh_walked.specs.CellWalk.{ComesTo, EndsAt, IsCellAt}
 use Rattle.exh_walked.specs.PlacedAnswer.{FailsAtEnd, FailsAtLeaf, FailsInWalk, FindsPlaced, HasValue, IsPagePlaced, NamesPlace, RefusesBehind, RefusesPlaced, pseudokey_in}
 use Rattle.exh_walked.specs.PlacedLaws.{FindsInPlaced, map_in}
-use Rattle.exh_walked.specs.WalkBlocks.{AreBlocksOf, FailsNext, HeaderFails, IsBlockOf, IsHeaderAt, WalkFails, cells_in, groups_read, pages_in}
+use Rattle.exh_walked.specs.WalkBlocks.{AreBlocksOf, HeaderFails, IsBlockOf, IsHeaderAt, WalkFails, cells_in, groups_read, pages_in}
 use Rattle.exh_walked.proofs.Blocks.{all_at}
 use Rattle.exh_walked.proofs.Few.{places_by_group}
 use Rattle.exh_walked.proofs.LegalWards.{count_of_wards, length-lows, own_ward, ward_less, ward_there}
-use Rattle.exh_walked.proofs.PlacedBlocks.{header_is, header_stands, in_group, length-group, page_is, page_stands, slice_group, walk_is, walk_stands}
-use Rattle.exh_walked.proofs.PlacedWalks.{IsHere, has_come, leaf_at, of_ward, walk_is as walk_ends, ward_begins, ward_prefix_is}
-use Rattle.exh_walked.proofs.WardNumbers.{numbered, page_of_low}
+use Rattle.exh_walked.proofs.PlacedBlocks.{header_is, header_stands, in_group, page_is, page_stands, slice_group, walk_is, walk_stands}
+use Rattle.exh_walked.proofs.PlacedWalks.{IsHere, has_come, of_ward, walk_is as walk_ends, ward_begins, ward_prefix_is}
+use Rattle.exh_walked.proofs.WardNumbers.{numbered, page_at_number, page_of_low}
 
 -- the laws that are cited
 pub record Laws : Type 0 where
@@ -184,9 +182,9 @@ module _ (laws : Laws) (file : PlacedFile) (tables : List TableMap) (bytes : Lis
           let live : IsLiveAt own_pages placed.prefix number = subst (λ (leaf : Leaf). IsLiveAt own_pages leaf.prefix leaf.page) same names.live in
           let page = page_of_low file.pages placed.page (low_of placed.prefix) on.low in
           let own = ap (ward_of bits) page.2 ∙ of_ward laws.slots file tables legal.is.valid legal.legal k blocks same_cells placed on in
-          let standing = numbered bits w file.pages placed.page page.0 page.1 own in
-          let both : Some page.0 ≡ Some (Live placed.prefix live.0 live.1) = sym standing ∙ live.2 in
-          record { right = live.0; records = live.1; at = page.1 ∙ both; own = live.2; begins = on.on.begins }
+          let standing : IsAt own_pages number page.0 = numbered bits w file.pages placed.page page.0 page.1 own in
+          let one = page_at_number own_pages number page.0 (Live placed.prefix live.0 live.1) standing live.2 in
+          record { right = live.0; records = live.1; at = subst (λ (page : Page). slice_get file.pages placed.page ≡ Some page) one page.1; own = live.2; begins = on.on.begins }
 
       -- ---- its value
 

@@ -1,10 +1,10 @@
 -- The wards of a legal file of version 3, and what its cells tell of their tables.
-use Rattle.std.proofs.Common.{◌≡◌, ℕ, zero, suc, ◌+◌, ◌-◌, ◌<◌, ◌≤◌, ◌^◌, Bool, List, [], ◌∷◌, length, map, take, get_or, slice_get, Some, refl, sym, ap, ◌∙◌, subst, arith}
+use Rattle.std.proofs.Common.{◌≡◌, ℕ, ◌<◌, ◌^◌, List, [], ◌∷◌, length, take, get_or, slice_get, Some, refl, sym, ap, ◌∙◌, subst, arith}
 use Rattle.std.specs.FinMap.{empty}
-use Rattle.std.specs.List.{AllByRecursion, range_with_len, sum}
+use Rattle.std.specs.List.{AllByRecursion}
 use Rattle.std.proofs.lemmas.List.{length-map}
 use Rattle.std.proofs.lemmas.List.FromFn.{get_or-map-range_with_len, length-map-range_with_len}
-use Rattle.std.proofs.lemmas.Option.{slice_get-get_or, slice_get_within}
+use Rattle.std.proofs.lemmas.Option.{slice_get-get_or}
 use Rattle.exh_keyer.specs.Pseudokey.{any_pseudokey}
 use Rattle.exh_prefix.specs.Leading.{ward_of, ward_prefix}
 use Rattle.exh_prefix.specs.LeadingLemmas.{leading-lt}
@@ -20,7 +20,7 @@ use Rattle.exh_legal.specs.LegalLaws.{IsWard}
 use Rattle.exh_codec.specs.PageImage.{IsPage}
 use Rattle.exh_cells.specs.CellLaws.{AreApart, AreTold, AreWords}
 use Rattle.exh_cells.specs.Fit.{pages_in}
-use Rattle.exh_cells.specs.LegalPlaced.{IsLegalPlaced, pages_of_ward, placed_parts, wards_of}
+use Rattle.exh_cells.specs.LegalPlaced.{IsLegalPlaced, pages_of_ward, wards_of}
 use Rattle.exh_cells.specs.PlacedFile.{IsPlaced, PlacedFile, lows_of}
 use Rattle.exh_walked.proofs.Counts.{few_bits, some_pages}
 use Rattle.exh_walked.proofs.WardNumbers.{none_counted, numbered, one_place, page_of_low}

@@ -1,6 +1,6 @@
 -- The blocks of a file of version 3 by their places.
-use Rattle.std.proofs.Common.{◌≡◌, ℕ, zero, suc, ◌+◌, ◌-◌, ◌*◌, ◌/◌, ◌%◌, ◌<◌, ◌≤◌, ◌^◌, List, [], ◌∷◌, ◌++◌, length, take, drop, slice_get, Some, refl, sym, ap, ◌∙◌, subst, append_assoc, arith}
-use Rattle.std.specs.List.{AllByRecursion, flat_map, sum}
+use Rattle.std.proofs.Common.{◌≡◌, ℕ, zero, suc, ◌+◌, ◌*◌, ◌/◌, ◌%◌, ◌<◌, ◌≤◌, List, [], ◌∷◌, ◌++◌, length, take, drop, slice_get, Some, refl, sym, ap, ◌∙◌, subst, arith}
+use Rattle.std.specs.List.{AllByRecursion, flat_map}
 use Rattle.std.proofs.lemmas.List.{drop-drop, length-append, length-drop, length-take, length-take-le}
 use Rattle.std.proofs.lemmas.Option.{slice_get_within}
 use Rattle.byteorder.specs.Endian.{big_bytes}
@@ -15,13 +15,13 @@ use Rattle.exh_codec.specs.PageImage.{IsImage, IsPage, padded}
 use Rattle.exh_format.specs.declared.header.Header.{Header}
 use Rattle.exh_format.specs.FileVersion.{FileVersion}
 use Rattle.exh_format.specs.HeaderImage.{front_bytes, header_bytes}
-use Rattle.exh_format.specs.FileTests.{IsWhole, block_at, bytes_from}
+use Rattle.exh_format.specs.FileTests.{block_at, bytes_from}
 use Rattle.exh_format.specs.PageFile.{page_block}
 use Rattle.exh_cells.specs.declared.cell.Cell.{Cell}
 use Rattle.exh_cells.specs.declared.stamped_header.StampedHeader.{StampedHeader}
 use Rattle.exh_cells.specs.BlockLaws.{WalksAreBlocks}
 use Rattle.exh_cells.specs.PlacedFile.{IsPlacedFile, PlacedFile, group_bytes, stamped_block, walk_block}
-use Rattle.exh_cells.specs.Places.{group_in, groups_of, page_block_of, walk_block_of}
+use Rattle.exh_cells.specs.Places.{groups_of, page_block_of, walk_block_of}
 use Rattle.exh_cells.specs.StampedHeader.{IsStampedHeader, IsStampedImage, placed_format, plain_header, stamped_bytes}
 use Rattle.exh_cells.specs.WalkImage.{IsCell, IsWalkImage}
 use Rattle.exh_direct.specs.StandingBlocks.{AreBlocks, StandsAt, behind_all, drop_next, one_of, stands}

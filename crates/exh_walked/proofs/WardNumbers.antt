@@ -1,6 +1,5 @@
 -- The numbers that pages have in their wards, in the order of their places.
-use Rattle.std.proofs.Common.{◌≡◌, ℕ, zero, suc, ◌+◌, ◌<◌, ◌≤◌, ◌^◌, nat_eq, Bool, true, false, cond, List, [], ◌∷◌, length, map, take, filter, slice_get, inl, inr, Some, refl, sym, ap, ◌∙◌, subst, arith}
-use Rattle.std.specs.Prelude.{count_by}
+use Rattle.std.proofs.Common.{◌≡◌, ℕ, zero, suc, ◌+◌, ◌<◌, nat_eq, Bool, true, false, cond, List, [], ◌∷◌, take, slice_get, inl, inr, Some, refl, sym, ap, ◌∙◌, arith}
 use Rattle.std.proofs.lemmas.Bool.{cases_lt}
 use Rattle.std.proofs.lemmas.Bool.Decides.{nat_tests}
 use Rattle.std.proofs.lemmas.List.Sums.{sum_by-cons}
@@ -28,6 +27,9 @@ pub page_of_low : (pages : List Page) (place low : ℕ) → slice_get (lows_of p
 page_of_low [] place low is = cc
 page_of_low (one ∷ pages) zero low is = (one, refl, (let same : low_bound one ≡ low = cc in same))
 page_of_low (one ∷ pages) (suc place) low is = page_of_low pages place low is
+
+pub page_at_number : (pages : List Page) (number : ℕ) (one other : Page) → slice_get pages number ≡ Some one → slice_get pages number ≡ Some other → one ≡ other
+page_at_number pages number one other is too = let both : Some one ≡ Some other = sym is ∙ too in cc
 
 module _ (bits ward : ℕ) where
   abbrev is_own : ℕ → Bool

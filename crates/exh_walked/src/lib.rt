@@ -4,6 +4,8 @@
 
 pub use finding::find_placed;
 
+#[cfg(test)]
+mod examples;
 mod finding;
 mod named;
 mod reading;
