@@ -1,0 +1,8 @@
+//! Page files of version 3 written whole: cells from the tables of wards (exhash's own).
+#![tactic(auto)]
+
+pub use cells::cells_of_tables;
+
+mod cells;
+mod place_index;
+mod slots;
