@@ -2,3 +2,6 @@
 pub mod FirstPlaces
 -- of cells_of_tables
 pub mod Made
+-- of legal_wards_have_places
+pub mod Filtered
+pub mod LegalPlaces

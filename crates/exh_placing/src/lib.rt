@@ -2,7 +2,9 @@
 #![tactic(auto)]
 
 pub use cells::cells_of_tables;
+pub use laws::legal_wards_have_places;
 
 mod cells;
+mod laws;
 mod place_index;
 mod slots;
