@@ -5,3 +5,5 @@ pub mod Made
 -- of legal_wards_have_places
 pub mod Filtered
 pub mod LegalPlaces
+-- of orders
+pub mod Orders

@@ -1,3 +1,4 @@
 pub mod Placed
 pub mod Making
 pub mod PlacingLaws
+pub mod Order

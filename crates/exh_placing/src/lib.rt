@@ -3,8 +3,12 @@
 
 pub use cells::cells_of_tables;
 pub use laws::legal_wards_have_places;
+pub use order::{first_order, grown_order, order_of_lows};
+pub use page_at::PageAt;
 
 mod cells;
 mod laws;
+mod order;
+mod page_at;
 mod place_index;
 mod slots;
