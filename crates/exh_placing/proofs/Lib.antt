@@ -7,3 +7,5 @@ pub mod Filtered
 pub mod LegalPlaces
 -- of orders
 pub mod Orders
+-- of files that are written place by place
+pub mod Groups

@@ -2,3 +2,4 @@ pub mod Placed
 pub mod Making
 pub mod PlacingLaws
 pub mod Order
+pub mod Writing

@@ -2,9 +2,10 @@
 #![tactic(auto)]
 
 pub use cells::cells_of_tables;
-pub use laws::legal_wards_have_places;
+pub use laws::{legal_wards_have_places, places_make_files};
 pub use order::{first_order, grown_order, order_of_lows};
 pub use page_at::PageAt;
+pub use writing::{write_header, write_place};
 
 mod cells;
 mod laws;
@@ -12,3 +13,5 @@ mod order;
 mod page_at;
 mod place_index;
 mod slots;
+mod stamped_block;
+mod writing;
