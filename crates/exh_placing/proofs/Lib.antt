@@ -9,3 +9,5 @@ pub mod LegalPlaces
 pub mod Orders
 -- of files that are written place by place
 pub mod Groups
+-- of legal_wards_give_files
+pub mod WardFiles

@@ -3,3 +3,4 @@ pub mod Making
 pub mod PlacingLaws
 pub mod Order
 pub mod Writing
+pub mod WardFile

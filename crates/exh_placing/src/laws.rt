@@ -1,6 +1,9 @@
 //! What holds of legal wards and of files: each function changes nothing, and its contract is a law.
 ghost use Rattle.exh_placing.specs.PlacingLaws.{LegalWardsHavePlaces};
+ghost use Rattle.exh_placing.specs.WardFile.{LegalWardsGiveFiles};
 ghost use Rattle.exh_placing.specs.Writing.{PlacesMakeFile};
+
+use exh_cells::cells_and_tables_tell;
 
 /// The pages of legal wards, in the order of their places, have different low bounds, and the entries of the wards'
 /// tables have their places among them. It takes no memory.
@@ -12,3 +15,11 @@ pub fn legal_wards_have_places()
 pub fn places_make_files()
     ensures { PlacesMakeFile }
 {}
+
+/// A file that has the pages of legal wards in an order, their counts, and cells that tell of their tables is legal; its
+/// wards are those, and its cells tell of no other tables. It takes no memory.
+pub fn legal_wards_give_files()
+    ensures { LegalWardsGiveFiles }
+{
+    cells_and_tables_tell();
+}

@@ -2,7 +2,7 @@
 #![tactic(auto)]
 
 pub use cells::cells_of_tables;
-pub use laws::{legal_wards_have_places, places_make_files};
+pub use laws::{legal_wards_give_files, legal_wards_have_places, places_make_files};
 pub use order::{first_order, grown_order, order_of_lows};
 pub use page_at::PageAt;
 pub use writing::{write_header, write_place};
