@@ -83,6 +83,10 @@ module _ {A : Type 0} (p : A → Bool) where
         | inr failing ↦ omega (arith, rest, counted_no y (take place xs) failing, counted_no y (take other xs) failing)
       ]
 
+  pub counted_none : (xs : List A) → ((i : ℕ) (x : A) → slice_get xs i ≡ Some x → p x ≡ false) → count_by p xs ≡ 0
+  counted_none [] each = refl
+  counted_none (x ∷ xs) each = counted_no x xs (each 0 x refl) ∙ counted_none xs (λ i. each (suc i))
+
 -- a count of what elements show
 pub counted_map : {A B : Type 0} (f : A → B) (p : B → Bool) (xs : List A) → count_by p (map f xs) ≡ count_by (λ x. p (f x)) xs
 counted_map f p [] = refl

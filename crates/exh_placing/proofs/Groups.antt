@@ -1,6 +1,7 @@
 -- The bytes of places, one after the other, are those of groups.
-use Rattle.std.proofs.Common.{◌≡◌, ℕ, zero, suc, ◌+◌, ◌-◌, ◌%◌, ◌<◌, Bool, nat_eq, eq-eqb, cond, false, List, [], ◌∷◌, ◌++◌, length, take, drop, refl, sym, ap, ◌∙◌, inl, inr, append_assoc, append-nil, arith}
-use Rattle.std.specs.List.{flat_map, range_with_len}
+use Rattle.std.proofs.Common.{◌≡◌, ℕ, zero, suc, ◌+◌, ◌-◌, ◌%◌, ◌<◌, Bool, nat_eq, eq-eqb, cond, false, List, [], ◌∷◌, ◌++◌, length, take, drop, refl, sym, ap, ◌∙◌, inl, inr, append_assoc, append-nil, arith, Option, Some}
+use Rattle.std.specs.List.{flat_map, range_with_len, slice_get}
+use Rattle.std.specs.Option.{option_map_or}
 use Rattle.std.proofs.lemmas.Bool.{cases_lt}
 use Rattle.std.proofs.lemmas.Bool.Decides.{eqb_tells}
 use Rattle.std.proofs.lemmas.List.{length-drop, take_all}
@@ -52,6 +53,12 @@ flat_shift f g by same (suc n) i =
 not_eqb : (one other : ℕ) → (one ≡ other → ⊥) → nat_eq one other ≡ false
 not_eqb one other differ = elim (eqb_tells one other) [ inl same ↦ absurd (differ same.1) | inr else ↦ else.0 ]
 
+one_taken : (place : ℕ) (pages : List Page) → flat_map page_block (take 1 (drop place pages)) ≡ option_map_or page_block (slice_get pages place) []
+one_taken zero [] = refl
+one_taken zero (page ∷ pages) = append-nil (page_block page)
+one_taken (suc place) [] = refl
+one_taken (suc place) (page ∷ pages) = one_taken place pages
+
 module _ (pages : List Page) (cells : List Cell) where
   pub opening_some : (place : ℕ) → place % 24 ≡ 0 → opening cells place ≡ walk_block (take 24 (drop place cells))
   opening_some place begins = ap (λ (b : Bool). cond b (walk_block (take 24 (drop place cells))) []) (eq-eqb (place % 24) 0 begins)
@@ -62,13 +69,13 @@ module _ (pages : List Page) (cells : List Cell) where
   -- the first places, at least one and at most a group
   first_group : (n : ℕ) → n < 24 → flat_map (place_bytes pages cells) (range_with_len 0 (n + 1)) ≡ walk_block (take 24 cells) ++ flat_map page_block (take (n + 1) pages)
   first_group zero few =
-      flat_more (place_bytes pages cells) 0 ∙ ap (λ (front : List ℕ). front ++ flat_map page_block (take 1 pages)) (opening_some 0 refl)
+      flat_more (place_bytes pages cells) 0 ∙ (λ i. opening_some 0 refl i ++ sym (one_taken 0 pages) i)
   first_group (suc n) few =
       let front = walk_block (take 24 cells) in
       let at = suc n in
       let next : at ≡ n + 1 = omega arith in
       let inside : at % 24 ≡ 0 → ⊥ = λ begins. omega (arith, begins, few) in
-      let here : place_bytes pages cells at ≡ flat_map page_block (take 1 (drop at pages)) = ap (λ (opened : List ℕ). opened ++ flat_map page_block (take 1 (drop at pages))) (opening_none at inside) in
+      let here : place_bytes pages cells at ≡ flat_map page_block (take 1 (drop at pages)) = ap (λ (opened : List ℕ). opened ++ option_map_or page_block (slice_get pages at) []) (opening_none at inside) ∙ sym (one_taken at pages) in
       let before : flat_map (place_bytes pages cells) (range_with_len 0 at) ≡ front ++ flat_map page_block (take at pages) =
       ap (λ (m : ℕ). flat_map (place_bytes pages cells) (range_with_len 0 m)) next ∙ first_group n (omega (arith, few)) ∙ ap (λ (m : ℕ). front ++ flat_map page_block (take m pages)) (sym next) in
       flat_more (place_bytes pages cells) at ∙ (λ i. before i ++ here i) ∙ append_assoc front (flat_map page_block (take at pages)) (flat_map page_block (take 1 (drop at pages)))
@@ -78,7 +85,9 @@ module _ (pages : List Page) (cells : List Cell) where
   next_group : (i : ℕ) → place_bytes pages cells (24 + i) ≡ place_bytes (drop 24 pages) (drop 24 cells) i
   next_group i =
       let same : (24 + i) % 24 ≡ i % 24 = omega arith in
-      (λ j. cond (nat_eq (same j) 0) (walk_block (take 24 (drop_on 24 i cells j))) [] ++ flat_map page_block (take 1 (drop_on 24 i pages j)))
+      let further : option_map_or page_block (slice_get pages (24 + i)) [] ≡ option_map_or page_block (slice_get (drop 24 pages) i) [] =
+      sym (one_taken (24 + i) pages) ∙ ap (λ (rest : List Page). flat_map page_block (take 1 rest)) (drop_on 24 i pages) ∙ one_taken i (drop 24 pages) in
+      (λ j. cond (nat_eq (same j) 0) (walk_block (take 24 (drop_on 24 i cells j))) [] ++ further j)
 
 -- ---- all groups
 
@@ -112,3 +121,11 @@ all_groups (suc groups) pages cells are = elim (cases_lt 24 (length pages)) [
 
 pub places_make_file : (file : PlacedFile) → bytes_to file (length file.pages) ≡ placed_bytes file
 places_make_file file = ap (λ (rest : List ℕ). stamped_block file.header ++ rest) (all_groups (groups_of (length file.pages)) file.pages file.cells refl)
+
+pub places_follow : (file : PlacedFile) (place : ℕ) (page : Page) → slice_get file.pages place ≡ Some page → bytes_to file (place + 1) ≡ bytes_to file place ++ (opening file.cells place ++ page_block page)
+places_follow file place page is =
+    let each = place_bytes file.pages file.cells in
+    let before = flat_map each (range_with_len 0 place) in
+    let here : each place ≡ opening file.cells place ++ page_block page = ap (λ (found : Option Page). opening file.cells place ++ option_map_or page_block found []) is in
+    ap (λ (rest : List ℕ). stamped_block file.header ++ rest) (flat_more each place ∙ ap (λ (last : List ℕ). before ++ last) here)
+    ∙ sym (append_assoc (stamped_block file.header) before (opening file.cells place ++ page_block page))

@@ -1,17 +1,21 @@
 -- Orders of pages, as they grow page by page and ward by ward.
-use Rattle.std.proofs.Common.{◌≡◌, ℕ, zero, suc, ◌+◌, ◌-◌, ◌<◌, ◌≤◌, Bool, nat_eq, eq-eqb, cond, false, List, [], ◌∷◌, ◌++◌, length, map, take, get_or, refl, sym, ap, ◌∙◌, subst, inl, inr, append_assoc, append-nil, arith}
+use Rattle.std.proofs.Common.{◌≡◌, ℕ, zero, suc, ◌+◌, ◌-◌, ◌<◌, ◌≤◌, Bool, nat_eq, eq-eqb, cond, false, List, [], ◌∷◌, ◌++◌, length, map, take, get_or, refl, sym, ap, ◌∙◌, subst, inl, inr, append_assoc, append-nil, arith, ◌^◌, drop, Some}
 use Rattle.std.specs.List.{flat_map, range_with_len, slice_get}
 use Rattle.std.proofs.lemmas.Bool.{cases_eq, cases_lt}
 use Rattle.std.proofs.lemmas.Bool.Decides.{eqb_tells}
-use Rattle.std.proofs.lemmas.List.{get_or_past, length-append, take-append-le}
+use Rattle.std.proofs.lemmas.List.{get_or_past, length-append, take-append-le, length-map, length-take, take-append-drop}
 use Rattle.std.proofs.lemmas.List.Concat.{flat_map-append}
-use Rattle.std.proofs.lemmas.List.FromFn.{map-range_with_len_more}
+use Rattle.std.proofs.lemmas.List.FromFn.{map-range_with_len_more, get_or-map-range_with_len, length-map-range_with_len}
 use Rattle.std.proofs.lemmas.List.Sums.{sum_by_push}
-use Rattle.std.proofs.lemmas.Option.{slice_get_within}
+use Rattle.std.proofs.lemmas.Option.{slice_get_within, slice_get-get_or, slice_get-map}
 use Rattle.std.proofs.Math.Seq.{take-append_seam}
-use Rattle.exh_prefix.specs.PrefixListLemmas.{at_front, at_last, one_there}
+use Rattle.std.specs.Option.{option_map}
+use Rattle.exh_placing.proofs.Filtered.{counted_none}
+use Rattle.exh_cells.specs.Fit.{BeginWards}
+use Rattle.exh_prefix.specs.Leading.{ward_of}
+use Rattle.exh_prefix.specs.PrefixListLemmas.{at_front, at_last, one_there, within_there}
 use Rattle.exh_placing.specs.declared.page_at.PageAt.{PageAt}
-use Rattle.exh_placing.specs.Order.{IsNumbered, IsOrderOf, IsWithin, first_pages, own_in, page_at, pages_between, with_others}
+use Rattle.exh_placing.specs.Order.{IsNumbered, IsOrderOf, IsWithin, first_pages, own_in, page_at, pages_between, with_others, BeginsWithFirsts, IsOrderOfLows}
 
 -- ---- one page more
 
@@ -177,3 +181,48 @@ firsts_within counts some ward = elim (cases_lt ward (length counts)) [
   | inl less ↦ let one = (firsts (length counts)).one ward less in omega (arith, one, some ward less)
   | inr past ↦ let none = (firsts (length counts)).none ward past in omega (arith, none)
 ]
+
+-- ---- the first places
+
+pub firsts_begin : (wards : ℕ) → BeginsWithFirsts wards (first_pages wards)
+firsts_begin wards ward less =
+    let page : ℕ → PageAt = λ ward. page_at ward 0 in
+    slice_get-get_or (first_pages wards) ward (page 0) (omega (arith, less, length-map-range_with_len page 0 wards))
+    ∙ ap (λ (at : PageAt). Some at) (get_or-map-range_with_len page 0 wards ward ward (page 0) less (omega arith))
+
+pub firsts_kept : (wards : ℕ) (placed more : List PageAt) → BeginsWithFirsts wards placed → BeginsWithFirsts wards (placed ++ more)
+firsts_kept wards placed more firsts ward less = at_front placed more ward (slice_get_within placed ward (page_at ward 0) (firsts ward less)) ∙ firsts ward less
+
+-- what stands in a front stands in the whole
+front_there : {A : Type 0} (n : ℕ) (xs : List A) (i : ℕ) (x : A) → slice_get (take n xs) i ≡ Some x → (i < n) × (slice_get xs i ≡ Some x)
+front_there n xs i x is =
+    let within = slice_get_within (take n xs) i x is in (
+      omega (arith, within, length-take n xs),
+      ap (λ (xs : List _). slice_get xs i) (sym (take-append-drop n xs)) ∙ at_front (take n xs) (drop n xs) i within ∙ is,
+    )
+
+module _ (ward_bits : ℕ) (lows : List ℕ) (order : List PageAt) (is_order : IsOrderOfLows ward_bits lows order) where
+  abbrev at_ward : PageAt → ℕ
+  at_ward at = at.ward
+
+  low_at : (place : ℕ) (at : PageAt) → slice_get order place ≡ Some at → (low : ℕ) × (slice_get lows place ≡ Some low) × (at.ward ≡ ward_of ward_bits low)
+  low_at place at is =
+      let long : length order ≡ length lows = sym (length-map order at_ward) ∙ ap length is_order.wards ∙ length-map lows (ward_of ward_bits) in
+      let low = within_there lows place (omega (arith, long, slice_get_within order place at is)) in
+      let both = one_there (map at_ward order) place at.ward (ward_of ward_bits low.0) (slice_get-map at_ward order place ∙ ap (option_map at_ward) is)
+      (ap (λ (wards : List ℕ). slice_get wards place) is_order.wards ∙ slice_get-map (ward_of ward_bits) lows place ∙ ap (option_map (ward_of ward_bits)) low.1) in
+      (low.0, low.1, both)
+
+  pub lows_begin : 2 ^ ward_bits ≤ length lows → BeginWards ward_bits lows → BeginsWithFirsts (2 ^ ward_bits) order
+  lows_begin many begins ward less =
+      let long : length order ≡ length lows = sym (length-map order at_ward) ∙ ap length is_order.wards ∙ length-map lows (ward_of ward_bits) in
+      let at = within_there order ward (omega (arith, long, less, many)) in
+      let own = low_at ward at.0 at.1 in
+      let ward_is : (at.0).ward ≡ ward = own.2 ∙ begins ward own.0 less own.1 in
+      let none : own_in (take ward order) ward ≡ 0 = counted_none (λ page. nat_eq page.ward ward) (take ward order) (λ place page is.
+      let there = front_there ward order place page is in
+      let low = low_at place page there.1 in
+      let other : page.ward ≡ place = low.2 ∙ begins place low.0 (omega (arith, there.0, less)) low.1 in
+      not_eqb page.ward ward (λ same. omega (arith, same, other, there.0))) in
+      let number_is : (at.0).number ≡ 0 = is_order.numbered ward at.0 at.1 ∙ ap (own_in (take ward order)) ward_is ∙ none in
+      at.1 ∙ (λ i. Some (page_at (ward_is i) (number_is i)))

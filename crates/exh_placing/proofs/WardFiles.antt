@@ -1,9 +1,9 @@
 -- Files that are made of legal wards.
-use Rattle.std.proofs.Common.{◌≡◌, ℕ, suc, ◌<◌, ◌≤◌, ◌^◌, nat_eq, Bool, List, [], ◌∷◌, length, map, take, get_or, None, Some, refl, sym, ap, ◌∙◌, subst, inl, inr, arith}
-use Rattle.std.specs.List.{count_by, filter, slice_get}
-use Rattle.std.specs.Option.{option_map}
+use Rattle.std.proofs.Common.{◌≡◌, ℕ, suc, ◌<◌, ◌≤◌, ◌^◌, nat_eq, eq-eqb, Bool, List, [], ◌∷◌, ◌++◌, length, map, take, get_or, None, Some, refl, sym, ap, ◌∙◌, subst, inl, inr, arith, zero, Option}
+use Rattle.std.specs.List.{count_by, filter, slice_get, flat_map}
+use Rattle.std.specs.Option.{option_map, option_to_list}
 use Rattle.std.proofs.lemmas.Bool.{cases_lt, eqb-true}
-use Rattle.std.proofs.lemmas.List.{get_or_past, length-map, take-map}
+use Rattle.std.proofs.lemmas.List.{get_or_past, length-map, take-map, take_all}
 use Rattle.std.proofs.lemmas.List.FromFn.{get_or-map-range_with_len, length-map-range_with_len}
 use Rattle.std.proofs.lemmas.List.Sums.{length-filter}
 use Rattle.std.proofs.lemmas.Option.{get_or_from_slice_get, slice_get-get_or, slice_get-map, slice_get_within}
@@ -30,10 +30,10 @@ use Rattle.exh_cells.specs.Fit.{BeginWards, FitsCells, pages_in}
 use Rattle.exh_cells.specs.LegalPlaced.{IsLegalPlaced, pages_of_ward}
 use Rattle.exh_cells.specs.PlacedFile.{PlacedFile, lows_of}
 use Rattle.exh_placing.specs.declared.page_at.PageAt.{PageAt}
-use Rattle.exh_placing.specs.Order.{IsOrderOf, own_in}
+use Rattle.exh_placing.specs.Order.{BeginsWithFirsts, IsOrderOf, own_in}
 use Rattle.exh_placing.specs.PlacingLaws.{wards_by}
-use Rattle.exh_placing.specs.WardFile.{ArePagesOf, BeginsWithFirsts, IsFileOfWards, IsLegalFileOf}
-use Rattle.exh_placing.proofs.Filtered.{counted_map, filtered_from}
+use Rattle.exh_placing.specs.WardFile.{ArePagesOf, IsFileOfWards, IsLegalFileOf, pages_named}
+use Rattle.exh_placing.proofs.Filtered.{counted_less, counted_map, filtered_from}
 
 same_lists : {X : Type 0} (one other : List X) → length one ≡ length other → ((i : ℕ) (x y : X) → slice_get one i ≡ Some x → slice_get other i ≡ Some y → x ≡ y) → one ≡ other
 same_lists [] [] len agree = refl
@@ -120,7 +120,7 @@ module _ (pseudo : List ℕ → ℕ) (cap ward_bits : ℕ) (wards : List (List P
       let own_is : get_or wards (at_ward at.0) [] ≡ own = ap (λ (ward : ℕ). get_or wards ward []) same ∙ get_or_from_slice_get wards ward own [] there in
       one_there own number page other (sym (λ i. slice_get (own_is i) (number_is i)) ∙ both.0) too)
 
-  wards_same : wards_by ward_bits pages ≡ wards
+  pub wards_same : wards_by ward_bits pages ≡ wards
   wards_same = same_lists (wards_by ward_bits pages) wards (length-map-range_with_len (pages_of_ward ward_bits pages) 0 (2 ^ ward_bits) ∙ sym count) (λ ward one other is too.
       let within : ward < 2 ^ ward_bits = omega (arith, slice_get_within wards ward other too, count) in
       let made : get_or (wards_by ward_bits pages) ward [] ≡ pages_of_ward ward_bits pages ward = get_or-map-range_with_len (pages_of_ward ward_bits pages) 0 (2 ^ ward_bits) ward ward [] within (omega arith) in
@@ -134,6 +134,48 @@ module _ (pseudo : List ℕ → ℕ) (cap ward_bits : ℕ) (wards : List (List P
 
   counted : (ward : ℕ) → get_or (map length wards) ward 0 ≡ pages_in ward_bits ward (lows_of pages)
   counted ward = sym (ordered.counted ward) ∙ sym (own_all ward) ∙ sym (counted_map low_bound (λ low. nat_eq (ward_of ward_bits low) ward) pages)
+
+-- ---- the pages of an order
+
+mapped : (wards : List (List Page)) (ward : ℕ) → get_or (map length wards) ward 0 ≡ length (get_or wards ward [])
+mapped [] ward = refl
+mapped (own ∷ wards) zero = refl
+mapped (own ∷ wards) (suc ward) = mapped wards ward
+
+Gives : {A B : Type 0} → (A → Option B) → List A → Type 0
+Gives {A} {B} f xs = (i : ℕ) (x : A) → slice_get xs i ≡ Some x → (y : B) × (f x ≡ Some y)
+
+given_each : {A B : Type 0} (f : A → Option B) (xs : List A) → Gives f xs → (i : ℕ) (x : A) → slice_get xs i ≡ Some x → slice_get (flat_map (λ x. option_to_list (f x)) xs) i ≡ f x
+unfolding Gives
+given_each f [] gives i x is = cc
+given_each {A} {B} f (y ∷ xs) gives zero x is =
+    let same : y ≡ x = cc in
+    let value = gives 0 y refl in
+    ap (λ (found : Option B). slice_get (option_to_list found ++ flat_map (λ x. option_to_list (f x)) xs) 0) value.1 ∙ sym value.1 ∙ ap f same
+given_each {A} {B} f (y ∷ xs) gives (suc i) x is =
+    let value = gives 0 y refl in
+    ap (λ (found : Option B). slice_get (option_to_list found ++ flat_map (λ x. option_to_list (f x)) xs) (suc i)) value.1 ∙ given_each f xs (λ i. gives (suc i)) i x is
+
+given_count : {A B : Type 0} (f : A → Option B) (xs : List A) → Gives f xs → length (flat_map (λ x. option_to_list (f x)) xs) ≡ length xs
+unfolding Gives
+given_count f [] gives = refl
+given_count {A} {B} f (y ∷ xs) gives =
+    let value = gives 0 y refl in
+    ap (λ (found : Option B). length (option_to_list found ++ flat_map (λ x. option_to_list (f x)) xs)) value.1 ∙ ap (λ (n : ℕ). suc n) (given_count f xs (λ i. gives (suc i)))
+
+pub pages_given : (wards : List (List Page)) (order : List PageAt) → IsOrderOf (map length wards) order → ArePagesOf wards order (pages_named wards order)
+unfolding Gives
+pages_given wards order ordered =
+    let page_of : PageAt → Option Page = λ at. slice_get (get_or wards at.ward []) at.number in
+    let gives : (place : ℕ) (at : PageAt) → slice_get order place ≡ Some at → (page : Page) × (page_of at ≡ Some page) = λ place at is.
+    let more = counted_less (λ (page : PageAt). nat_eq page.ward at.ward) order place (length order) at (slice_get_within order place at is) is (eq-eqb at.ward at.ward refl) in
+    let all : own_in (take (length order) order) at.ward ≡ own_in order at.ward = ap (λ (order : List PageAt). own_in order at.ward) (take_all (length order) order (omega arith)) in
+    let number = ordered.numbered place at is in
+    let long : get_or (map length wards) at.ward 0 ≡ length (get_or wards at.ward []) = mapped wards at.ward in
+    within_there (get_or wards at.ward []) at.number (omega (arith, more, all, number, long, ordered.counted at.ward)) in
+    record { count = given_count page_of order gives; each = given_each page_of order gives }
+
+-- ---- the file
 
 pub legal_file : CellsTellTables → (wards : List (List Page)) (tables : List TableMap) (order : List PageAt) (file : PlacedFile)
     → IsLegalFile (any_pseudokey file.header.settings.keyer) (parts_of file.header.settings.cap file.header.settings.ward_bits wards tables) → IsFileOfWards wards tables order file → IsLegalFileOf wards tables file

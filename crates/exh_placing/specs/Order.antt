@@ -1,5 +1,5 @@
 -- Orders of the pages of all wards.
-use Rattle.std.specs.Prelude.{◌≡◌, ℕ, ◌-◌, ◌≤◌, nat_eq, List, ◌++◌, length, map, take, get_or, slice_get, Some}
+use Rattle.std.specs.Prelude.{◌≡◌, ℕ, ◌-◌, ◌<◌, ◌≤◌, nat_eq, List, ◌++◌, length, map, take, get_or, slice_get, Some}
 use Rattle.std.specs.List.{count_by, flat_map, range_with_len}
 use Rattle.exh_prefix.specs.Leading.{ward_of}
 use Rattle.exh_placing.specs.declared.page_at.PageAt.{PageAt}
@@ -29,6 +29,10 @@ page_at ward number = record { ward = ward; number = number }
 -- the pages of a ward from a number on, to below another
 abbrev pub pages_between : ℕ → ℕ → ℕ → List PageAt
 pages_between ward from to = map (page_at ward) (range_with_len from (to - from))
+
+-- the first places are those of the wards' pages 0
+abbrev pub BeginsWithFirsts : ℕ → List PageAt → Type 0
+BeginsWithFirsts wards order = (ward : ℕ) → ward < wards → slice_get order ward ≡ Some (page_at ward 0)
 
 -- an order, and behind it the other pages of wards that have so many, ward by ward
 abbrev pub with_others : List ℕ → List PageAt → List PageAt

@@ -1,5 +1,7 @@
 -- A file of version 3 that is made of wards, their tables and an order of their pages.
 use Rattle.std.specs.Prelude.{◌≡◌, ℕ, ◌<◌, ◌^◌, List, [], length, map, get_or, slice_get, slice_index, Some}
+use Rattle.std.specs.List.{flat_map}
+use Rattle.std.specs.Option.{option_to_list}
 use Rattle.exh_keyer.specs.Pseudokey.{any_pseudokey}
 use Rattle.exh_table.specs.Table.{TableMap}
 use Rattle.exh_page.specs.declared.page.Page.{Page}
@@ -10,16 +12,16 @@ use Rattle.exh_cells.specs.CellLaws.{AreTold}
 use Rattle.exh_cells.specs.LegalPlaced.{HasTables, IsLegalPlaced, wards_of}
 use Rattle.exh_cells.specs.PlacedFile.{PlacedFile, lows_of}
 use Rattle.exh_placing.specs.declared.page_at.PageAt.{PageAt}
-use Rattle.exh_placing.specs.Order.{IsOrderOf, page_at}
+use Rattle.exh_placing.specs.Order.{BeginsWithFirsts, IsOrderOf}
 
 -- the pages of wards in an order
 pub record ArePagesOf (wards : List (List Page)) (order : List PageAt) (pages : List Page) : Type 0 where
   pub count : length pages ≡ length order
   pub each : (place : ℕ) (at : PageAt) → slice_get order place ≡ Some at → slice_get pages place ≡ slice_get (get_or wards at.ward []) at.number
 
--- the first places are those of the wards' pages 0
-abbrev pub BeginsWithFirsts : ℕ → List PageAt → Type 0
-BeginsWithFirsts wards order = (ward : ℕ) → ward < wards → slice_get order ward ≡ Some (page_at ward 0)
+-- those that there are, one after the other
+abbrev pub pages_named : List (List Page) → List PageAt → List Page
+pages_named wards order = flat_map (λ at. option_to_list (slice_get (get_or wards at.ward []) at.number)) order
 
 -- the file has the pages in the order, their counts, and cells that tell of the tables
 pub record IsFileOfWards (wards : List (List Page)) (tables : List TableMap) (order : List PageAt) (file : PlacedFile) : Type 0 where

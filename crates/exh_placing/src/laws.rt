@@ -1,19 +1,21 @@
 //! What holds of legal wards and of files: each function changes nothing, and its contract is a law.
-ghost use Rattle.exh_placing.specs.PlacingLaws.{LegalWardsHavePlaces};
+ghost use Rattle.exh_placing.specs.PlacingLaws.{LegalWardsHavePlaces, OrdersGivePages};
 ghost use Rattle.exh_placing.specs.WardFile.{LegalWardsGiveFiles};
-ghost use Rattle.exh_placing.specs.Writing.{PlacesMakeFile};
+ghost use Rattle.exh_placing.specs.Writing.{PlacesFollow, PlacesMakeFile};
 
 use exh_cells::cells_and_tables_tell;
 
-/// The pages of legal wards, in the order of their places, have different low bounds, and the entries of the wards'
+/// The pages of legal wards, in an order, have different low bounds, and the entries of the wards'
 /// tables have their places among them. It takes no memory.
 pub fn legal_wards_have_places()
     ensures { LegalWardsHavePlaces }
 {}
 
-/// The header's block and those of all places, one after the other, are the bytes of a file. It takes no memory.
+/// The header's block and those of all places, one after the other, are the bytes of a file; behind those of so many
+/// places comes what `write_place` writes. It takes no memory.
 pub fn places_make_files()
-    ensures { PlacesMakeFile }
+    ensures follow { PlacesFollow }
+    ensures whole { PlacesMakeFile }
 {}
 
 /// A file that has the pages of legal wards in an order, their counts, and cells that tell of their tables is legal; its
@@ -23,3 +25,8 @@ pub fn legal_wards_give_files()
 {
     cells_and_tables_tell();
 }
+
+/// An order of wards' pages names a page at each place. It takes no memory.
+pub fn orders_give_pages()
+    ensures { OrdersGivePages }
+{}

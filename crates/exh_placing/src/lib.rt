@@ -2,9 +2,12 @@
 #![tactic(auto)]
 
 pub use cells::cells_of_tables;
-pub use laws::{legal_wards_give_files, legal_wards_have_places, places_make_files};
+pub use laws::{
+    legal_wards_give_files, legal_wards_have_places, orders_give_pages, places_make_files,
+};
 pub use order::{first_order, grown_order, order_of_lows};
 pub use page_at::PageAt;
+pub use table_list::TableList;
 pub use writing::{write_header, write_place};
 
 mod cells;
@@ -14,4 +17,5 @@ mod page_at;
 mod place_index;
 mod slots;
 mod stamped_block;
+mod table_list;
 mod writing;

@@ -1,7 +1,8 @@
 ghost use Rattle.std.specs.Prelude.{◌≡◌, ◌≤◌, ◌<◌, ◌^◌, ◌++◌, ℕ, length, slice_index, IfOk, OnOk};
 ghost use Rattle.exh_prefix.specs.declared.prefix.TheConstants.{WARD_BITS_LIMIT};
 ghost use Rattle.exh_cells.specs.declared.fit.TheConstants.{COUNTS_LEN};
-ghost use Rattle.exh_placing.specs.Order.{IsNumbered, IsOrderOf, IsOrderOfLows, IsWithin, first_pages, own_in, pages_between, with_others};
+ghost use Rattle.exh_cells.specs.Fit.{BeginWards};
+ghost use Rattle.exh_placing.specs.Order.{BeginsWithFirsts, IsNumbered, IsOrderOf, IsOrderOfLows, IsWithin, first_pages, own_in, pages_between, with_others};
 
 use crate::PageAt;
 use crate::cells::ward_at;
@@ -16,6 +17,7 @@ pub fn first_order(alloc: Global, counts: &[PageNo]) -> Result<Vec<PageAt>, Allo
     requires some { (ward : ℕ) → ward < length counts.now → 1 ≤ slice_index counts.now ward }
     ensures order { IfOk result (λ order. IsOrderOf counts.now order.items) }
     ensures whole { IfOk result (λ order. order.items ≡ with_others counts.now (first_pages (length counts.now))) }
+    ensures firsts { IfOk result (λ order. BeginsWithFirsts (length counts.now) order.items) }
 {
     let firsts = pages_0(alloc, counts.len())?;
     grown_order(alloc, &firsts, counts)
@@ -34,6 +36,7 @@ pub fn grown_order(
     requires within { IsWithin counts.now placed.now }
     ensures order { IfOk result (λ order. IsOrderOf counts.now order.items) }
     ensures whole { IfOk result (λ order. order.items ≡ with_others counts.now placed.now) }
+    ensures firsts { IfOk result (λ order. (wards : ℕ) → BeginsWithFirsts wards placed.now → BeginsWithFirsts wards order.items) }
 {
     let olds = counts_of(placed);
     let mut order = Vec::from_slice(alloc, placed)?;
@@ -48,7 +51,8 @@ pub fn grown_order(
 pub fn order_of_lows(alloc: Global, ward_bits: u8, lows: &[u64]) -> Result<Vec<PageAt>, AllocError>
     requires bits { ward_bits ≤ WARD_BITS_LIMIT }
     requires few { length lows.now < 2 ^ 32 }
-    ensures { IfOk result (λ order. IsOrderOfLows ward_bits lows.now order.items) }
+    ensures order { IfOk result (λ order. IsOrderOfLows ward_bits lows.now order.items) }
+    ensures firsts { IfOk result (λ order. 2 ^ ward_bits ≤ length lows.now → BeginWards ward_bits lows.now → BeginsWithFirsts (2 ^ ward_bits) order.items) }
 {
     let mut found = [0; COUNTS_LEN];
     let mut order = Vec::with_capacity(alloc, lows.len())?;

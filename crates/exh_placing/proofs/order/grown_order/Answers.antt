@@ -1,8 +1,8 @@
 use Rattle.std.proofs.Common.{◌≡◌, ℕ, ◌<◌, ◌++◌, List, length, get_or, append_assoc, sym, ap, ◌∙◌, subst, arith}
 use Rattle.std.specs.List.{flat_map, range_with_len}
 use Rattle.exh_placing.specs.declared.page_at.PageAt.{PageAt}
-use Rattle.exh_placing.specs.Order.{IsOrderOf, own_in, pages_between, with_others}
-use Rattle.exh_placing.proofs.Orders.{flat_more, others_ordered}
+use Rattle.exh_placing.specs.Order.{BeginsWithFirsts, IsOrderOf, own_in, pages_between, with_others}
+use Rattle.exh_placing.proofs.Orders.{firsts_kept, flat_more, others_ordered}
 use Rattle.exh_placing.proofs.order.grown_order.Goals as goal
 
 pub push_pages-requires : goal.push_pages-requires
@@ -31,3 +31,7 @@ returns-clause-order c =
     let end : c.loop-ward.ward ≡ length counts = omega arith in
     let whole : c.loop-ward.order.items ≡ with_others counts placed = c.loop-ward.invariant ∙ ap (λ (n : ℕ). placed ++ flat_map others (range_with_len 0 n)) end in
     subst (IsOrderOf counts) (sym whole) (others_ordered counts placed c.requires.numbered c.requires.within)
+
+pub returns-clause-firsts : goal.returns-clause-firsts
+returns-clause-firsts c = λ wards firsts.
+    subst (BeginsWithFirsts wards) (sym c.loop-ward.invariant) (firsts_kept wards c.args.placed.now _ firsts)

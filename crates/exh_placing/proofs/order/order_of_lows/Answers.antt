@@ -4,8 +4,8 @@ use Rattle.std.proofs.lemmas.Bool.{cases_eq}
 use Rattle.std.proofs.lemmas.List.{get_or-set_other, get_or-set_same, length-set, map-append, take_all, take_more}
 use Rattle.exh_prefix.specs.Leading.{ward_of}
 use Rattle.exh_placing.specs.declared.page_at.PageAt.{PageAt}
-use Rattle.exh_placing.specs.Order.{IsNumbered, own_in, page_at}
-use Rattle.exh_placing.proofs.Orders.{numbered_push, own_else, own_more}
+use Rattle.exh_placing.specs.Order.{IsNumbered, IsOrderOfLows, own_in, page_at}
+use Rattle.exh_placing.proofs.Orders.{lows_begin, numbered_push, own_else, own_more}
 use Rattle.exh_placing.proofs.order.order_of_lows.Goals as goal
 
 pub loop-place-preserved : goal.loop-place-preserved
@@ -39,7 +39,9 @@ loop-place-preserved c =
     }
 
 pub returns : goal.returns
-returns c = record {
-  numbered = c.loop-place.invariant.numbered;
-  wards = c.loop-place.invariant.wards ∙ ap (map (ward_of c.args.ward_bits)) (take_all c.loop-place.place c.args.lows.now (omega arith));
-}
+returns c =
+    let order : IsOrderOfLows c.args.ward_bits c.args.lows.now c.loop-place.order.items = record {
+      numbered = c.loop-place.invariant.numbered;
+      wards = c.loop-place.invariant.wards ∙ ap (map (ward_of c.args.ward_bits)) (take_all c.loop-place.place c.args.lows.now (omega arith));
+    } in
+    record { order = order; firsts = lows_begin c.args.ward_bits c.args.lows.now c.loop-place.order.items order }
