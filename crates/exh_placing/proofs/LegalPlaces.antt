@@ -35,7 +35,7 @@ use Rattle.exh_cells.specs.CellLaws.{AreApart}
 use Rattle.exh_cells.specs.Fit.{pages_in}
 use Rattle.exh_cells.specs.LegalPlaced.{pages_of_ward}
 use Rattle.exh_cells.specs.PlacedFile.{lows_of}
-use Rattle.exh_placing.specs.Placed.{HasPlaces, HavePlaces, IsPlaceOf, kind_by}
+use Rattle.exh_placing.specs.Placed.{HasPlaces, HavePlaces, kind_by}
 use Rattle.exh_placing.specs.PlacingLaws.{wards_by}
 use Rattle.exh_placing.proofs.Filtered.{counted_less, counted_map, filtered_from, filtered_to}
 
@@ -127,7 +127,8 @@ module _ (ward_bits : ℕ) (pages : List Page) where
 
   record HasNumber (ward low number : ℕ) : Type 0 where
     place : ℕ
-    is : IsPlaceOf ward_bits lows ward low place
+    page_is : slice_get lows place ≡ Some low
+    ward_is : ward_of ward_bits low ≡ ward
     counted : pages_in ward_bits ward (take place lows) ≡ number
 
   place_of_number : (ward low number : ℕ) → IsPageOf (pages_of_ward ward_bits pages ward) low number → HasNumber ward low number
@@ -135,10 +136,8 @@ module _ (ward_bits : ℕ) (pages : List Page) where
       let stands = filtered_from (is_own ward) pages number page.0 page.1 in
       record {
         place = stands.place;
-        is = record {
-          page_is = low_there stands.place page.0 stands.there ∙ ap (λ (low : ℕ). Some low) page.2;
-          ward_is = ap (ward_of ward_bits) (sym page.2) ∙ eqb-true (ward_of ward_bits (low_bound page.0)) ward stands.passes;
-        };
+        page_is = low_there stands.place page.0 stands.there ∙ ap (λ (low : ℕ). Some low) page.2;
+        ward_is = ap (ward_of ward_bits) (sym page.2) ∙ eqb-true (ward_of ward_bits (low_bound page.0)) ward stands.passes;
         counted = own_before ward stands.place ∙ stands.counted;
       }
 
@@ -160,10 +159,11 @@ module _ (ward_bits : ℕ) (pages : List Page) where
           short = short_at prefix_of_ward table own both.0 both.1 prefix entry entry.kind refl is;
           some = λ none. let some = (both.1.entries prefix entry is).some in omega (arith, some, none);
           left = left_place.place;
-          left_is = left_place.is;
+          left_is = left_place.page_is;
           right = right_place.place;
-          right_is = right_place.is;
-          kind_is = right.2 ∙ ap (kind_by entry.number) (sym right_place.counted);
+          right_is = right_place.page_is;
+          own = left_place.ward_is;
+          kind_is = right.2 ∙ ap (kind_by entry.number) (sym (ap (λ (ward : ℕ). pages_in ward_bits ward (take right_place.place lows)) right_place.ward_is ∙ right_place.counted));
         }
 
     pub all_placed : HavePlaces ward_bits lows tables

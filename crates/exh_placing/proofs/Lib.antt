@@ -11,3 +11,5 @@ pub mod Orders
 pub mod Groups
 -- of legal_wards_give_files
 pub mod WardFiles
+-- of told_tables_have_places
+pub mod ToldPlaces

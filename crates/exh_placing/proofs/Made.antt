@@ -27,7 +27,7 @@ use Rattle.exh_cells.specs.Fit.{FitEach, pages_in}
 use Rattle.exh_cells.specs.Told.{entry_in, kind_in, number_at}
 use Rattle.exh_cells.specs.WalkImage.{IsCell}
 use Rattle.exh_placing.specs.Making.{ArePlaces, AreSlotsFor, HasRightPlaces, place_in}
-use Rattle.exh_placing.specs.Placed.{HavePlaces, kind_by}
+use Rattle.exh_placing.specs.Placed.{HavePlaces, kind_by, number_by}
 
 -- what holds at each place holds of each element
 pub all_from : {X : Type 0} (P : X → Type 0) (xs : List X) → ((i : ℕ) (x : X) → slice_get xs i ≡ Some x → P x) → AllByRecursion P xs
@@ -101,7 +101,7 @@ pub right_placed : (ward_bits : ℕ) (lows : List ℕ) (tables : List TableMap) 
 right_placed ward_bits lows tables places have index ward table there prefix entry is =
     let has = have.each ward table prefix entry there is in
     let low = low_of (prefix ++ true ∷ []) in
-    let found = (index low has.right).1 (slice_get_within lows has.right low has.right_is.page_is, has.right_is.page_is) in
+    let found = (index low has.right).1 (slice_get_within lows has.right low has.right_is, has.right_is) in
     record { short = has.short; some = has.some; right = subst (λ (found : Option ℕ). IsSome found) (sym found) refl }
 
 pub all_words : (lows : List ℕ) → ((place : ℕ) → get_or lows place 0 < 2 ^ 64) → AreWords lows
@@ -112,11 +112,11 @@ all_words lows words = all_from (λ (low : ℕ). low < 2 ^ 64) lows (λ place lo
 made_entry : ℕ → Kind → Entry
 made_entry number kind = record { number = number; kind = kind }
 
-entry_none : (cells : List Cell) (slot : Slot) → slot.number ≡ 0 → entry_in cells slot ≡ None
+pub entry_none : (cells : List Cell) (slot : Slot) → slot.number ≡ 0 → entry_in cells slot ≡ None
 unfolding made_entry
 entry_none cells slot none = ap (λ (is : Bool). cond is None (Some (made_entry slot.number (kind_in cells slot)))) (eq-eqb slot.number 0 none)
 
-entry_there : (cells : List Cell) (slot : Slot) (entry : Entry) → (slot.number ≡ 0 → ⊥) → entry.number ≡ slot.number → entry.kind ≡ kind_in cells slot → Some entry ≡ entry_in cells slot
+pub entry_there : (cells : List Cell) (slot : Slot) (entry : Entry) → (slot.number ≡ 0 → ⊥) → entry.number ≡ slot.number → entry.kind ≡ kind_in cells slot → Some entry ≡ entry_in cells slot
 unfolding made_entry
 entry_there cells slot entry some number kind =
     (λ i. Some (made_entry (number i) (kind i))) ∙ sym (ap (λ (is : Bool). cond is None (Some (made_entry slot.number (kind_in cells slot)))) (not_eqb slot.number 0 some))
@@ -160,11 +160,10 @@ module _ (ward_bits : ℕ) (lows : List ℕ) (places : List (ℕ × ℕ)) (cells
   kind_said ward table prefix entry slot there is number page =
       let has = have.each ward table prefix entry there is in
       let low = low_of (prefix ++ true ∷ []) in
-      let other = (index low has.right).1 (slice_get_within lows has.right low has.right_is.page_is, has.right_is.page_is) in
+      let other = (index low has.right).1 (slice_get_within lows has.right low has.right_is, has.right_is) in
       let both : Some has.right ≡ Some slot.page = sym other ∙ page in
       let same : has.right ≡ slot.page = cc in
-      let right : pages_in ward_bits ward (take has.right lows) ≡ number_at cells slot.page =
-      ap (λ (ward : ℕ). pages_in ward_bits ward (take has.right lows)) (sym has.right_is.ward_is) ∙ sym (number_is has.right low has.right_is.page_is) ∙ ap (number_at cells) same in
+      let right : number_by ward_bits lows low has.right ≡ number_at cells slot.page = sym (number_is has.right low has.right_is) ∙ ap (number_at cells) same in
       has.kind_is ∙ (λ i. kind_by (number i) (right i))
 
   entry_said : (ward : ℕ) (table : TableMap) (prefix : List Bool) (slot : Slot) (found : Option Entry) → slice_get tables ward ≡ Some table → (slot.number ≡ 0 → ⊥) → get table prefix ≡ found
@@ -192,8 +191,8 @@ module _ (ward_bits : ℕ) (lows : List ℕ) (places : List (ℕ × ℕ)) (cells
   entry_slot ward table prefix entry there is =
       let has = have.each ward table prefix entry there is in
       let low = low_of prefix in
-      let cell = within_there cells has.left (omega (arith, all, slice_get_within lows has.left low has.left_is.page_is)) in
-      let own = own_cell has.left low cell.0 has.left_is.page_is cell.1 in
+      let cell = within_there cells has.left (omega (arith, all, slice_get_within lows has.left low has.left_is)) in
+      let own = own_cell has.left low cell.0 has.left_is cell.1 in
       let slot = within_there (cell.0).slots (length prefix) (omega (arith, own.valid.read.count, has.short)) in (
         slot.0,
         record {
@@ -201,10 +200,10 @@ module _ (ward_bits : ℕ) (lows : List ℕ) (places : List (ℕ × ℕ)) (cells
           low = low;
           cell = cell.0;
           len = length prefix;
-          page_is = has.left_is.page_is;
+          page_is = has.left_is;
           cell_is = cell.1;
           slot_is = slot.1;
-          ward_is = has.left_is.ward_is;
+          ward_is = has.own;
           has_prefix = HasPrefix-low_of prefix (omega (arith, has.short));
           prefix_is = sym (take-low_of prefix (omega (arith, has.short)));
         },

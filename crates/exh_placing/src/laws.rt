@@ -1,9 +1,10 @@
 //! What holds of legal wards and of files: each function changes nothing, and its contract is a law.
+ghost use Rattle.exh_placing.specs.Placed.{ToldTablesHavePlaces};
 ghost use Rattle.exh_placing.specs.PlacingLaws.{LegalWardsHavePlaces, OrdersGivePages};
 ghost use Rattle.exh_placing.specs.WardFile.{LegalWardsGiveFiles};
 ghost use Rattle.exh_placing.specs.Writing.{PlacesFollow, PlacesMakeFile};
 
-use exh_cells::cells_and_tables_tell;
+use exh_cells::{cells_and_tables_tell, slots_are_entries};
 
 /// The pages of legal wards, in an order, have different low bounds, and the entries of the wards'
 /// tables have their places among them. It takes no memory.
@@ -30,3 +31,10 @@ pub fn legal_wards_give_files()
 pub fn orders_give_pages()
     ensures { OrdersGivePages }
 {}
+
+/// The entries of tables that cells tell of have their places among the cells' pages. It takes no memory.
+pub fn told_tables_have_places()
+    ensures { ToldTablesHavePlaces }
+{
+    slots_are_entries();
+}
