@@ -6,3 +6,4 @@ pub mod CellTables
 pub mod BlockElements
 pub mod HeaderBytes
 pub mod StampedPassed
+pub mod Matched

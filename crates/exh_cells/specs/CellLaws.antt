@@ -63,3 +63,13 @@ CellsTellTables = (ward_bits : ℕ) (lows : List ℕ) (cells : List Cell) (table
 -- and tables are told by one list of cells
 abbrev pub TablesTellCells : Type 0
 TablesTellCells = (ward_bits : ℕ) (lows : List ℕ) (cells others : List Cell) (tables : List TableMap) → AreTold ward_bits lows cells tables → AreTold ward_bits lows others tables → cells ≡ others
+
+-- tables, one for each ward, that have at the prefix of each slot what it tells, and no entry elsewhere
+pub record AreMatched (ward_bits : ℕ) (lows : List ℕ) (cells : List Cell) (tables : List TableMap) : Type 0 where
+  pub count : length tables ≡ 2 ^ ward_bits
+  pub slots : (ward : ℕ) (table : TableMap) (prefix : List Bool) (slot : Slot) → slice_get tables ward ≡ Some table → IsSlotOf ward_bits lows cells ward prefix slot → get table prefix ≡ entry_in cells slot
+  pub entries : (ward : ℕ) (table : TableMap) (prefix : List Bool) (entry : Entry) → slice_get tables ward ≡ Some table → get table prefix ≡ Some entry → (slot : Slot) × IsSlotOf ward_bits lows cells ward prefix slot
+
+-- the other way round: such tables are those that the cells tell of
+abbrev pub MatchedTablesAreTold : Type 0
+MatchedTablesAreTold = (ward_bits : ℕ) (lows : List ℕ) (cells : List Cell) (tables : List TableMap) → FitEach ward_bits lows cells → AreMatched ward_bits lows cells tables → AreTablesOf ward_bits lows cells tables

@@ -4,7 +4,7 @@
 pub use block_laws::{stamped_headers_pass, walk_blocks_pass};
 pub use cell::{CELL_LEN, Cell, SLOTS, Slot};
 pub use fit::{COUNTS_LEN, cells_fit};
-pub use laws::{cells_and_tables_tell, slots_are_entries};
+pub use laws::{cells_and_tables_tell, matched_tables_are_told, slots_are_entries};
 pub use places::{GROUP_PAGES, end_block, group_of, page_block, walk_block};
 pub use stamped_header::{StampedHeader, is_placed};
 pub use tables::tables_of_cells;
