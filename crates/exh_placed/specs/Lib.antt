@@ -1,0 +1,5 @@
+pub mod PlacedTests
+pub mod PlacedParts
+pub mod PlacedLaws
+pub mod Sources
+pub mod Reading

@@ -1,0 +1,16 @@
+//! Page files of version 3, read whole: from the bytes of a reader to the parts of a file, or to the first fault
+//! (exhash's own). A file has exactly one list of bytes, and bytes are those of one file.
+#![tactic(auto)]
+
+pub use laws::{one_placed_file, one_placed_image, placed_files_pass};
+pub use placed_parts::PlacedParts;
+pub use reading::read_placed;
+
+mod block_source;
+#[cfg(test)]
+mod examples;
+mod laws;
+mod placed_pages;
+mod placed_parts;
+mod read_groups;
+mod reading;
