@@ -9,3 +9,6 @@ pub mod Placed
 pub mod Groups
 pub mod Files
 pub mod Read
+pub mod Legal
+pub mod LegalRead
+pub mod Plain

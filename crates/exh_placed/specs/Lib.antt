@@ -3,3 +3,5 @@ pub mod PlacedParts
 pub mod PlacedLaws
 pub mod Sources
 pub mod Reading
+pub mod LegalReading
+pub mod PlainLaws

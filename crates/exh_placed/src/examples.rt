@@ -2,9 +2,10 @@
 ghost use Rattle.std.specs.Prelude.{◌≤◌, ◌+◌, length};
 ghost use Rattle.exh_codec.specs.declared.block.TheConstants.{CONTENT_LEN};
 
-use crate::{PlacedParts, read_placed};
+use crate::{LegalPlaced, PlacedParts, read_legal_placed, read_placed};
 use exh_codec::{BLOCK_LEN, ImageFault, seal};
-use exh_format::{FileFault, ReadFileFault};
+use exh_format::{FileFault, LegalFileFault, ReadFileFault};
+use exh_notice::{Entry, Kind};
 use exh_page::{Page, PageHead};
 use exh_prefix::Prefix;
 use std::alloc::{AllocError, Global};
@@ -85,6 +86,19 @@ fn read(alloc: Global, bytes: &[u8]) -> Result<PlacedParts<Vec<Page>>, ReadFileF
     read_placed(alloc, &mut rest)
 }
 
+fn read_legal(alloc: Global, bytes: &[u8]) -> Result<LegalPlaced<Vec<Page>>, LegalFileFault> {
+    let mut rest = bytes;
+    read_legal_placed(alloc, &mut rest)
+}
+
+// The number of the reason for which a file isn't legal, if there is one.
+fn reason(read: &Result<LegalPlaced<Vec<Page>>, LegalFileFault>) -> Option<u8> {
+    match read {
+        Ok(_) => None,
+        Err(fault) => fault.reason(),
+    }
+}
+
 fn is_fault(read: &Result<PlacedParts<Vec<Page>>, ReadFileFault>, number: u8) -> bool {
     match read {
         Ok(_) => false,
@@ -96,6 +110,7 @@ fn is_fault(read: &Result<PlacedParts<Vec<Page>>, ReadFileFault>, number: u8) ->
 fn three_pairs(rt: HostRuntime) -> Result<(), Fail> {
     let [first, second] = pages();
     let bytes = file(rt.alloc(), &[header(0, 2, 0), walk(), first, second])?;
+    assert!(rt; read_legal(rt.alloc(), &bytes).is_ok());
     let parts = read(rt.alloc(), &bytes)?;
     assert!(rt; parts.header.stamp == 7 && parts.header.before == 5);
     assert!(rt; parts.wards.len() == 1 && parts.cells.len() == 2);
@@ -114,33 +129,80 @@ fn three_pairs(rt: HostRuntime) -> Result<(), Fail> {
     Ok(())
 }
 
-#[test]
-fn two_wards(rt: HostRuntime) -> Result<(), Fail> {
-    let mut walk = EMPTY;
-    put(&mut walk, 12, &[0, 0, 0, 2, 0, 0, 0, 3]);
-    put(&mut walk, 176, &[0, 0, 0, 1, 0, 0, 0, 2]);
-    put(&mut walk, 328, &[0, 0, 0, 1]);
-    put(&mut walk, 492, &[0, 0, 0, 1]);
-    let blocks = [
-        header(1, 2, 2),
-        walk,
+// The walk block of the file of two wards, with these numbers and slots of length 1 of its first two pages.
+fn walk_of_two(first: [u8; 8], second: [u8; 8], third_number: u8) -> Block {
+    let mut block = EMPTY;
+    put(&mut block, 12, &first);
+    put(&mut block, 176, &second);
+    put(&mut block, 328, &[0, 0, 0, third_number]);
+    put(&mut block, 492, &[0, 0, 0, 1]);
+    block
+}
+
+const MERGE: [u8; 8] = [0, 0, 0, 2, 0, 0, 0, 3];
+
+const SPLIT: [u8; 8] = [0, 0, 0, 1, 0, 0, 0, 2];
+
+// The pages of the file of two wards.
+fn pages_of_two() -> [Block; 4] {
+    [
         page([1, 1, 1], NONE, 0, &[1, 1, 0, 0x61]),
         page([1, 2, 1], [0, 0, 0, 1], 0x80, &[1, 1, 0x80, 0x62]),
         page([1, 2, 1], NONE, 0xc0, &[1, 1, 0xc0, 0x63]),
         page([2, 0, 0], [0, 0, 0, 0], 0x40, &[]),
-    ];
-    let parts = read(rt.alloc(), &file(rt.alloc(), &blocks)?)?;
-    assert!(rt; parts.wards.len() == 2 && parts.cells.len() == 4);
-    let (first, second) = (&parts.wards[0], &parts.wards[1]);
-    assert!(rt; first.len() == 2 && second.len() == 2);
+    ]
+}
+
+#[test]
+fn two_wards(rt: HostRuntime) -> Result<(), Fail> {
+    let [first, second, third, fourth] = pages_of_two();
+    let walk = walk_of_two(MERGE, SPLIT, 1);
+    let bytes = file(
+        rt.alloc(),
+        &[header(1, 2, 2), walk, first, second, third, fourth],
+    )?;
+    let LegalPlaced { parts, tables } = read_legal(rt.alloc(), &bytes)?;
+    assert!(rt; parts.wards.len() == 2 && tables.len() == 2);
+    let (one, other) = (&parts.wards[0], &parts.wards[1]);
+    assert!(rt; one.len() == 2 && other.len() == 2);
     let left = PageHead::Forward {
         low: 1 << 62,
         target: 0,
     };
-    assert!(rt; first[1].head() == left);
-    assert!(rt; second[1].low() == 3 << 62);
+    assert!(rt; one[1].head() == left);
+    assert!(rt; other[1].low() == 3 << 62);
     assert!(rt; parts.lows.as_slice() == [0, 1 << 63, 3 << 62, 1 << 62].as_slice());
-    assert!(rt; parts.cells[3].number == 1 && parts.cells[1].slots[1].page == 2);
+    let merge = Entry {
+        number: 2,
+        kind: Kind::Merge,
+    };
+    assert!(rt; tables[0].get(Prefix::of_number(1, 0)) == Some(merge));
+    let split = Entry {
+        number: 1,
+        kind: Kind::Split { right: 1 },
+    };
+    assert!(rt; tables[1].get(Prefix::of_number(1, 1)) == Some(split));
+    Ok(())
+}
+
+// The same with the first pages of both wards exchanged, and with a number that counts the pages of both.
+#[test]
+fn cells_that_do_not_fit(rt: HostRuntime) -> Result<(), Fail> {
+    let [first, second, third, fourth] = pages_of_two();
+    let exchanged = [
+        header(1, 2, 2),
+        walk_of_two(SPLIT, MERGE, 1),
+        second,
+        first,
+        third,
+        fourth,
+    ];
+    let bytes = file(rt.alloc(), &exchanged)?;
+    assert!(rt; reason(&read_legal(rt.alloc(), &bytes)) == Some(6));
+    let walk = walk_of_two(MERGE, SPLIT, 2);
+    let counted = [header(1, 2, 2), walk, first, second, third, fourth];
+    let bytes = file(rt.alloc(), &counted)?;
+    assert!(rt; reason(&read_legal(rt.alloc(), &bytes)) == Some(6));
     Ok(())
 }
 
