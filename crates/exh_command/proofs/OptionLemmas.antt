@@ -1,9 +1,9 @@
 -- Which words a command takes that has options with a value, flags, and places, and what it then holds.
 use Rattle.std.proofs.Common.{◌≡◌, ◌∙◌, ℕ, ◌+◌, Bool, true, false, List, [], ◌∷◌, ◌++◌, Option, Some, None, refl, sym, ap, ap₂, subst, codes, cond, inl, inr, append-nil, is_some}
-use Rattle.std.specs.Prelude.{◌⊎◌, ◌||◌, ◌&&◌, not, find, fold, map, min, option_and_then, option_map, slice_get, IsSome}
+use Rattle.std.specs.Prelude.{◌⊎◌, ◌||◌, ◌&&◌, find, fold, map, min, option_and_then, option_map, slice_get, IsSome}
 use Rattle.std.specs.List.{list_any}
 use Rattle.std.specs.Option.{option_map_or}
-use Rattle.std.proofs.lemmas.Bool.{and_parts, false≢true}
+use Rattle.std.proofs.lemmas.Bool.{false≢true}
 use Rattle.std.specs.Str.{bytes_eq}
 use Rattle.std.proofs.lemmas.Slice.Eq.{bytes_eq-Decides}
 use Rattle.clap.specs.Words.{Kinds, Row, Rule, Shape, Text, first_of}
@@ -17,8 +17,8 @@ use Rattle.clap.proofs.WalkLemmas.{find-map, list_any-map}
 use Rattle.exh_command.specs.Parser.{flag_rule, option_rule, word_rule}
 use Rattle.clap.proofs.OnLiterals.{clap_on_literals}
 use Rattle.exh_command.specs.Words.{uses_taken, Between, Ended, Reading, Use, Wanting, Wrong, after_option, after_place, after_word, ends_options, flag_set, flagged_by, gives, is_named, is_option, is_use_of, next_place, path_name, placed_at, used_by, uses_read, option_given, whole, whole_at, with_use}
-use Rattle.exh_command.proofs.PlaceLemmas.{IsOfNone, are_distinct, at_start, false-or, in_order, next_found, next_taken, options_apart, or-false, order_kept, position_kept, position_of}
-use Rattle.exh_command.proofs.WordLemmas.{Fails, IsAsking, IsFlagged, IsValue, or_nothing, by_bundle_fails, by_long, by_long_fails, first_fails, flagged, is_end, is_name, is_plain_word, is_value, long_fails, second_fails}
+use Rattle.exh_command.proofs.PlaceLemmas.{IsOfNone, are_distinct, at_start, false-or, in_order, next_found, next_taken, options_apart, order_kept, position_kept, position_of}
+use Rattle.exh_command.proofs.WordLemmas.{Fails, IsAsking, IsFlagged, IsValue, or_nothing, by_bundle_fails, by_long, by_long_fails, first_fails, flagged, is_end, is_plain_word, is_value, long_fails, second_fails}
 
 -- ---- an option, as it is when its command is built, and what is held of its use
 

@@ -1,5 +1,5 @@
 -- The words behind a command: options with their values, and paths.
-use Rattle.std.specs.Prelude.{◌&&◌, ◌==◌, ◌++◌, ℕ, Bool, false, true, not, List, [], ◌∷◌, fold, find, length, nat_lt, Option, Some, None, option_map, codes, if◌then◌else◌}
+use Rattle.std.specs.Prelude.{◌&&◌, ◌==◌, ◌++◌, ℕ, Bool, false, not, List, [], ◌∷◌, fold, find, length, nat_lt, Option, Some, None, option_map, codes, if◌then◌else◌}
 use Rattle.std.specs.List.{list_any}
 use Rattle.std.specs.Str.{bytes_eq, chars}
 use Rattle.clap.specs.Lexer.{long_of}
