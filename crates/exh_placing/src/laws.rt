@@ -1,7 +1,7 @@
 //! What holds of legal wards and of files: each function changes nothing, and its contract is a law.
 ghost use Rattle.exh_placing.specs.Placed.{ToldTablesHavePlaces};
 ghost use Rattle.exh_placing.specs.PlacingLaws.{LegalWardsHavePlaces, OrdersGivePages};
-ghost use Rattle.exh_placing.specs.WardFile.{LegalWardsGiveFiles};
+ghost use Rattle.exh_placing.specs.WardFile.{FilesOfWardsArePlaced, LegalWardsGiveFiles};
 ghost use Rattle.exh_placing.specs.Writing.{PlacesFollow, PlacesMakeFile};
 
 use exh_cells::{cells_and_tables_tell, slots_are_entries};
@@ -38,3 +38,9 @@ pub fn told_tables_have_places()
 {
     slots_are_entries();
 }
+
+/// A file that has the pages of wards in an order, their counts, and cells that tell of their tables is one that has
+/// bytes, where its header is one that a file may have and the wards' pages have images. It takes no memory.
+pub fn files_of_wards_are_placed()
+    ensures { FilesOfWardsArePlaced }
+{}
