@@ -9,6 +9,7 @@ use crate::{
     PageAt, cells_of_tables, first_order, grown_order, order_of_lows, told_tables_have_places,
     write_header, write_place,
 };
+use arrayvec::ArrayVec;
 use exh_cells::{
     COUNTS_LEN, Cell, StampedHeader, cells_fit, decode_cells, encode_cells, tables_of_cells,
 };
@@ -20,6 +21,7 @@ use exh_settings::FileSettings;
 use exh_stream::Output;
 use exh_table::Table;
 use std::alloc::{AllocError, Global};
+use std::io::Write;
 use std::test::Fail;
 
 // A walk block with these bytes, each behind its place.
@@ -165,8 +167,8 @@ fn are(order: &[PageAt], pages: &[(u8, PageNo)]) -> bool {
 }
 
 // Writes the file of this header, cells and pages' blocks, and says whether it was written.
-fn is_written(
-    writer: &mut Vec<u8>,
+fn is_written<W: Write>(
+    writer: &mut W,
     header: &StampedHeader,
     cells: &[Cell],
     pages: &[[u8; BLOCK_LEN]],
@@ -221,6 +223,10 @@ fn file(rt: HostRuntime) -> Result<(), Fail> {
         (99, 5),
     ]);
     assert!(rt; are_blocks(&bytes, &[first, block, pages[0], pages[1]]));
+    // A writer that has room for less gets a beginning.
+    let mut short = ArrayVec::<u8, 9000>::new();
+    assert!(rt; !is_written(&mut short, &header, &cells, &pages));
+    assert!(rt; bytes.starts_with(short.as_slice()));
     Ok(())
 }
 
