@@ -144,7 +144,7 @@ module _ (opened : OpenedState) (are : AreWardsOf opened) (sound : AreSound open
   pub are_short : AreShort (entries_of_all opened.wards)
   are_short = all_short opened.wards (λ number ward is. let legal = (sound number ward is).legal in short_entries ward.pages legal.legal.legal.linked legal.fits)
 
-  page_count : PagesAreFew → (number : ℕ) (ward : WardState AnyKeyer) → slice_get opened.wards number ≡ Some ward → IsPageCount LIMIT opened.ward_bits (length ward.pages)
+  pub page_count : PagesAreFew → (number : ℕ) (ward : WardState AnyKeyer) → slice_get opened.wards number ≡ Some ward → IsPageCount LIMIT opened.ward_bits (length ward.pages)
   page_count few number ward is =
       let linked = (legal_ward number ward is).legal.legal.linked in
       let own = ward_prefix opened.ward_bits number in

@@ -3,6 +3,12 @@ pub mod OpenLegal
 pub mod Lists
 pub mod Going
 pub mod Left
+-- of the places of a file of version 3
+pub mod Places
+pub mod PlacedLegal
+pub mod Counts
+pub mod FewPlaces
+pub mod StillPlaced
 -- of the header
 pub mod Legal
 -- of opening what was written

@@ -5,6 +5,7 @@ use Rattle.exh_prefix.specs.PrefixListLemmas.{one_there}
 use Rattle.exh_keyer.specs.declared.any_keyer.AnyKeyer.{AnyKeyer}
 use Rattle.exh_ward.specs.WardState.{IsUnchanged, WardState}
 use Rattle.exh_file.specs.Opened.{OpenedState}
+use Rattle.exh_file.specs.Draft.{DraftState, IsDraftLeft}
 use Rattle.exh_file.specs.Saved.{AreUnchanged, IsLeft}
 
 -- they are unchanged
@@ -16,3 +17,6 @@ still_the_same wards = record {
 
 pub left_as_it_was : (opened : OpenedState) → IsLeft opened opened
 left_as_it_was opened = record { settings = refl; unchanged = still_the_same opened.wards }
+
+pub draft_as_it_was : (draft : DraftState) → IsDraftLeft draft draft
+draft_as_it_was draft = record { opened = left_as_it_was draft.opened; form = refl }

@@ -24,5 +24,7 @@ pub mod OneMapLemmas
 pub mod InWardLemmas
 pub mod SaveFault
 pub mod Saved
+pub mod Placing
+pub mod Draft
 pub mod LeftLemmas
 pub mod Reopened

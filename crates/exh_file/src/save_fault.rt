@@ -1,10 +1,11 @@
 ghost use Rattle.std.specs.Prelude.{◌≡◌};
 ghost use Rattle.exh_ward.specs.WardFault.{IsStoreFault};
 ghost use Rattle.exh_file.specs.SaveFault.{save_fault_of, save_fault_number};
-ghost use Rattle.exh_file.specs.declared.save_fault.SaveFault.TheVariants.{Write};
+ghost use Rattle.exh_file.specs.declared.save_fault.SaveFault.TheVariants.{Memory, Write};
 
 use exh_stream::WriteFault;
 use exh_ward::WardFault;
+use std::alloc::AllocError;
 use thiserror::Error;
 
 /// Why wards weren't written whole.
@@ -51,5 +52,13 @@ impl From<WriteFault> for SaveFault {
 
     fn from(_fault: WriteFault) -> SaveFault {
         SaveFault::Write
+    }
+}
+
+impl From<AllocError> for SaveFault {
+    ghost from_gives = { λ _ fault. fault ≡ Memory };
+
+    fn from(_error: AllocError) -> SaveFault {
+        SaveFault::Memory
     }
 }

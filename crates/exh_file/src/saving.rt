@@ -164,7 +164,7 @@ fn write_page<P: Pages + Drop, W: Write>(
 }
 
 // The block of the page of a number.
-fn read_block<P: Pages + Drop>(
+pub(crate) fn read_block<P: Pages + Drop>(
     ward: &mut Ward<P, AnyKeyer>,
     number: PageNo,
     block: &mut [u8; BLOCK_LEN],
