@@ -18,14 +18,17 @@ use Rattle.exh_prefix.specs.Version.{Version}
 use Rattle.exh_prefix.specs.Layout.{layout}
 use Rattle.exh_prefix.specs.declared.version.Version.{Version as KnownVersion}
 use Rattle.exh_prefix.specs.declared.version.Version.TheVariants.{First, Second}
+use Rattle.exh_prefix.specs.declared.version.TheConstants.{WRITTEN}
+use Rattle.exh_keyer.specs.Pseudokey.{any_pseudokey}
 use Rattle.exh_keyer.specs.declared.any_keyer.AnyKeyer.{AnyKeyer}
 use Rattle.exh_notice.specs.NoticeByteLemmas.{zeros_from}
 use Rattle.exh_notice.specs.declared.entry.Entry.{Entry}
 use Rattle.exh_table.specs.Table.{TableMap}
 use Rattle.exh_page.specs.declared.page.Page.{Page}
 use Rattle.exh_legal.specs.LegalLaws.{FittingTablesBeginWards}
+use Rattle.exh_legal.specs.ReasonLaws.{IsLegalFile}
 use Rattle.exh_codec.specs.PageImage.{padded}
-use Rattle.exh_format.specs.FileVersion.{file_version, version_of, written_format}
+use Rattle.exh_format.specs.FileVersion.{file_version, format_of, version_of, written_format}
 use Rattle.exh_format.specs.TableImage.{AreRising, image_of, prefixes_of}
 use Rattle.exh_format.specs.declared.file_entry.FileEntry.{FileEntry}
 use Rattle.exh_format.specs.declared.header.Header.{Header}
@@ -33,12 +36,16 @@ use Rattle.exh_format.specs.PageFile.{IsFile, PageFile, file_bytes, header_block
 use Rattle.exh_format.specs.Reading.{AreBytes}
 use Rattle.exh_format.specs.BlockLaws.{HeadersAreBlocks}
 use Rattle.exh_format.specs.FileLaws.{SameBlocks}
-use Rattle.exh_format.specs.LegalFile.{IsLegalPageFile, table_naming, told_of}
+use Rattle.exh_format.specs.LegalFile.{IsLegalPageFile, parts_in, table_naming, told_of}
 use Rattle.exh_format.specs.LegalFileLemmas.{table_naming_at}
+use Rattle.exh_versions.specs.LegalBytes.{IsLegalPlacedOf}
+use Rattle.exh_versions.specs.PlainFile.{plain_file}
+use Rattle.exh_versions.specs.VersionLaws.{PlacedFilesSayFiles}
+use Rattle.exh_versions.specs.VersionLemmas.{says_placed, wards_are_bytes}
 use Rattle.exh_ward.specs.WardState.{WardState}
 use Rattle.exh_file.specs.Opened.{AreWardsOf, OpenedState}
 use Rattle.exh_file.specs.Opening.{IsOpenedFile}
-use Rattle.exh_file.specs.Reopened.{IsWrittenAgain, in_written}
+use Rattle.exh_file.specs.Reopened.{IsWrittenAgain, OpensAs, in_written}
 use Rattle.exh_file.specs.Saved.{AreSound, counts_in, entries_of_all, file_entry, written_file, header_of, pages_of_all}
 use Rattle.exh_file.proofs.Named.{none_in, told_by, with_one}
 use Rattle.exh_file.proofs.Renumbered.{renumbered_file}
@@ -190,7 +197,8 @@ padded_front counts many len long zeros =
 
 -- ---- the file of wards that were opened
 
-module _ (opened : OpenedState) (are : AreWardsOf opened) (sound : AreSound opened.wards) (begin : FittingTablesBeginWards) (version : KnownVersion) (file : PageFile) (bytes : List ℕ) (are_bytes : AreBytes bytes) (legal : IsLegalPageFile (file_version version) file bytes) (is : IsOpenedFile file opened) where
+module _ (opened : OpenedState) (are : AreWardsOf opened) (sound : AreSound opened.wards) (begin : FittingTablesBeginWards) (version : KnownVersion) (file : PageFile) (valid : IsFile (file_version version) file)
+    (legal : IsLegalFile (any_pseudokey file.header.settings.keyer) (parts_in file)) (small : AllByRecursion HasByte file.entries) (is : IsOpenedFile file opened) where
   abbrev items : List FileEntry
   items = entries_of_all opened.wards
 
@@ -201,24 +209,23 @@ module _ (opened : OpenedState) (are : AreWardsOf opened) (sound : AreSound open
   tables_again number less = elim (slice_get_cases opened.wards number).1 [
     | inl found ↦ own_named opened are sound begin number found.0 found.2 ∙ ap (λ (w : WardState AnyKeyer). w.table) (is.each number found.0 found.2).is
     | inr past ↦
-        let stray = legal.legal.strays number (omega (arith, past.0, is.count)) in
+        let stray = legal.strays number (omega (arith, past.0, is.count)) in
         none_named opened are sound begin number past.0 ∙ sym (sym (table_naming_at file.entries number less) ∙ stray)
   ]
 
   told_again : (number : ℕ) → told_by items number ≡ told_by file.entries number
   told_again number = elim (cases_lt number 256) [
-    | inl less ↦ same_told items file.entries number (rising opened are sound begin) legal.is.valid.rising (tables_again number less)
+    | inl less ↦ same_told items file.entries number (rising opened are sound begin) valid.rising (tables_again number less)
     | inr beyond ↦
         none_in opened.wards number (λ at ward there named. omega (arith, beyond, few opened are sound begin, slice_get_within opened.wards at ward there, (are.each at ward there).number_is, named))
-        ∙ sym (past_bytes file.entries number (in_file_bytes version file (subst AreBytes legal.is.whole are_bytes)) beyond)
+        ∙ sym (past_bytes file.entries number small beyond)
   ]
 
   entries_again : items ≡ file.entries
-  entries_again = same_items items file.entries (rising opened are sound begin) legal.is.valid.rising told_again
+  entries_again = same_items items file.entries (rising opened are sound begin) valid.rising told_again
 
   counts_again : counts_in opened.wards ≡ file.header.page_counts
   counts_again =
-      let valid = legal.is.valid in
       ap (λ (wards : List (List Page)). padded 16 (map length wards)) pages_again ∙ ap (padded 16) valid.counts
       ∙ padded_front file.header.page_counts (2 ^ file.header.settings.ward_bits) 16 valid.header.counts valid.header.others
 
@@ -229,7 +236,7 @@ module _ (opened : OpenedState) (are : AreWardsOf opened) (sound : AreSound open
       ap (λ (cap : ℕ). made cap opened.ward_bits opened.keyer (length items) (counts_in opened.wards)) is.cap
       ∙ ap (λ (bits : ℕ). made header.settings.cap bits opened.keyer (length items) (counts_in opened.wards)) is.bits
       ∙ ap (λ (keyer : AnyKeyer). made header.settings.cap header.settings.ward_bits keyer (length items) (counts_in opened.wards)) is.keyer
-      ∙ ap (λ (count : ℕ). made header.settings.cap header.settings.ward_bits header.settings.keyer count (counts_in opened.wards)) (ap (λ (l : List FileEntry). length l) entries_again ∙ legal.is.valid.count)
+      ∙ ap (λ (count : ℕ). made header.settings.cap header.settings.ward_bits header.settings.keyer count (counts_in opened.wards)) (ap (λ (l : List FileEntry). length l) entries_again ∙ valid.count)
       ∙ ap (made header.settings.cap header.settings.ward_bits header.settings.keyer header.entry_count) counts_again
 
   file_again : written_file opened ≡ file
@@ -245,7 +252,28 @@ in_written_version : HeadersAreBlocks → SameBlocks → (version : KnownVersion
 in_written_version blocks same First file bytes valid is = renumbered_file blocks same file valid ∙ ap (in_written First) (sym is)
 in_written_version blocks same Second file bytes valid is = sym is
 
-pub is_again : (opened : OpenedState) → AreWardsOf opened → AreSound opened.wards → FittingTablesBeginWards → HeadersAreBlocks → SameBlocks → IsWrittenAgain opened
-is_again opened are sound begin blocks same bytes are_bytes opens =
-    ap (file_bytes written_format) (file_again opened are sound begin (version_of bytes) opens.file bytes are_bytes opens.legal opens.wards)
-    ∙ in_written_version blocks same (version_of bytes) opens.file bytes opens.legal.is.valid opens.legal.is.whole
+module _ (opened : OpenedState) (are : AreWardsOf opened) (sound : AreSound opened.wards) (begin : FittingTablesBeginWards) (law : PlacedFilesSayFiles) where
+  plain_again : (file : PageFile) (bytes : List ℕ) → AreBytes bytes → IsLegalPageFile (format_of bytes) file bytes → IsOpenedFile file opened → written_file opened ≡ file
+  plain_again file bytes are_bytes page is = file_again opened are sound begin (version_of bytes) file page.is.valid page.legal (in_file_bytes (version_of bytes) file (subst AreBytes page.is.whole are_bytes)) is
+
+  placed_again : (file : PageFile) (bytes : List ℕ) → IsLegalPlacedOf file bytes → IsOpenedFile file opened → written_file opened ≡ file
+  placed_again file bytes placed is =
+      let said = plain_file placed.placed placed.tables in
+      let plain = law placed.placed placed.tables bytes placed.legal in
+      file_again opened are sound begin WRITTEN said plain.valid plain.legal (wards_are_bytes placed.placed placed.tables bytes placed.legal) (subst (λ (file : PageFile). IsOpenedFile file opened) placed.says is)
+      ∙ sym placed.says
+
+  same_again : (bytes : List ℕ) (opens : OpensAs bytes opened) → AreBytes bytes → written_file opened ≡ opens.file
+  same_again bytes opens are_bytes = elim opens.legal [
+    | inl page ↦ plain_again opens.file bytes are_bytes page opens.wards
+    | inr placed ↦ placed_again opens.file bytes placed opens.wards
+  ]
+
+  pub is_again : HeadersAreBlocks → SameBlocks → IsWrittenAgain opened
+  is_again blocks same = record {
+    same = same_again;
+    again = λ bytes are_bytes opens other. elim opens.legal [
+      | inl page ↦ ap (file_bytes written_format) (same_again bytes opens are_bytes) ∙ in_written_version blocks same (version_of bytes) opens.file bytes page.is.valid page.is.whole
+      | inr placed ↦ absurd (other (says_placed placed.placed bytes placed.legal.is))
+    ];
+  }

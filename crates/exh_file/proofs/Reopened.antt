@@ -26,16 +26,17 @@ use Rattle.exh_legal.specs.LegalLaws.{FittingTablesBeginWards, PagesAreFew}
 use Rattle.exh_legal.specs.MapLemmas.{all_pages}
 use Rattle.exh_legal.specs.Pages.{map_of}
 use Rattle.exh_codec.specs.PageImage.{IsInRange, IsPage}
-use Rattle.exh_format.specs.FileVersion.{file_version, version_of, written_format}
-use Rattle.exh_format.specs.FileVersionLemmas.{image_says, known_file_fits}
+use Rattle.exh_format.specs.FileVersion.{file_version, format_of, version_of, written_format}
+use Rattle.exh_format.specs.FileVersionLemmas.{image_says}
 use Rattle.exh_format.specs.HeaderImage.{IsHeader}
 use Rattle.exh_format.specs.TableImage.{AreRising, IsFileEntry, prefixes_of}
 use Rattle.exh_format.specs.declared.file_entry.FileEntry.{FileEntry}
-use Rattle.exh_format.specs.FileLaws.{OneFile, blocks_behind}
+use Rattle.exh_format.specs.FileLaws.{blocks_behind}
 use Rattle.exh_format.specs.PageFile.{IsFile, PageFile, file_bytes, header_block, pages_of}
 use Rattle.exh_legal.specs.ReasonLaws.{IsLegalFile, LegalFilesPass, LegalTablesHaveRoom}
 use Rattle.exh_format.specs.LegalFile.{IsLegalPageFile, parts_in, table_naming, tables_of}
 use Rattle.exh_format.specs.LegalFileLemmas.{table_naming_at}
+use Rattle.exh_versions.specs.VersionLaws.{OneLegalFile}
 use Rattle.exh_ward.specs.WardState.{WardState}
 use Rattle.exh_file.specs.Opened.{AreWardsOf, OpenedState}
 use Rattle.exh_file.specs.Opening.{IsOpenedFile, ward_opened}
@@ -167,13 +168,13 @@ module _ (opened : OpenedState) (are : AreWardsOf opened) (sound : AreSound open
           ∙ ap (λ (keyer : AnyKeyer). with_settings ward.cap ward.ward_bits ward.number keyer) (sym own.keyer);
     }
 
-    pub is_kept : OneFile → IsKept opened (file_bytes written_format file)
+    pub is_kept : OneLegalFile → IsKept opened (file_bytes written_format file)
     is_kept one = record {
       legal = is_legal_file;
       same = λ other opens.
           let bytes = file_bytes written_format file in
-          let legal = subst (λ (version : Version). IsLegalPageFile (file_version version) opens.file bytes) (says_version WRITTEN file is_file.header) opens.legal in
-          let same : opens.file ≡ file = one written_format (known_file_fits WRITTEN) bytes opens.file file legal.is is_legal_file.is in
+          let page : IsLegalPageFile (format_of bytes) file bytes = subst (λ (version : Version). IsLegalPageFile (file_version version) file bytes) (sym (says_version WRITTEN file is_file.header)) is_legal_file in
+          let same : opens.file ≡ file = one bytes opens.file file opens.legal (inl page) in
           begun other (subst (λ (f : PageFile). IsOpenedFile f other) same opens.wards);
     }
 

@@ -11,8 +11,13 @@ use Rattle.exh_legal.specs.LegalLaws.{IsWard}
 use Rattle.exh_legal.specs.Pages.{map_of}
 use Rattle.exh_format.specs.declared.header.Header.{Header}
 use Rattle.exh_format.specs.PageFile.{PageFile}
+use Rattle.exh_format.specs.Reading.{AreBytes, IsAll}
 use Rattle.exh_ward.specs.WardState.{WardState, IsSoundWard}
-use Rattle.exh_format.specs.LegalFile.{IsLegalFileFaultOf, table_naming}
+use Rattle.exh_format.specs.LegalFile.{table_naming}
+use Rattle.exh_versions.specs.FileForm.{IsFormOf}
+use Rattle.exh_versions.specs.FirstFault.{IsFirstFaultOf}
+use Rattle.exh_versions.specs.LegalBytes.{IsLegalBytes}
+use Rattle.exh_versions.specs.declared.file_form.FileForm.{FileForm}
 use Rattle.exh_file.specs.declared.open_fault.OpenFault.{OpenFault}
 use Rattle.exh_file.specs.declared.open_fault.OpenFault.TheVariants.{File, Page as OutOfReach}
 use Rattle.exh_file.specs.Opened.{OpenedState}
@@ -62,9 +67,19 @@ pub record IsOpenedFile (file : PageFile) (opened : OpenedState) : Type 0 where
   pub count : length opened.wards ≡ length file.wards
   pub each : (number : ℕ) (ward : WardState AnyKeyer) → slice_get opened.wards number ≡ Some ward → IsOpenedWard file.header number (get_or file.wards number []) (table_naming file.entries number) ward
 
+-- those of a legal file that the bytes say, which are all that was known, and the form of the bytes
+pub record IsOpenedAs (known : Option (List ℕ)) (opened : OpenedState) (form : FileForm) : Type 0 where
+  pub file : PageFile
+  pub bytes : List ℕ
+  pub all : IsAll known bytes
+  pub are_bytes : AreBytes bytes
+  pub legal : IsLegalBytes file bytes
+  pub form_is : IsFormOf file bytes form
+  pub wards : IsOpenedFile file opened
+
 -- ---- the first fault
 
 -- the fault, if it is one of the bytes, is their first, where they are known
 abbrev pub IsOpenFaultOf : Option (List ℕ) → OpenFault → Type 0
-IsOpenFaultOf known (File fault) = IsLegalFileFaultOf known fault
+IsOpenFaultOf known (File fault) = IsFirstFaultOf known fault
 IsOpenFaultOf known OutOfReach = ⊤

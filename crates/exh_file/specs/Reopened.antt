@@ -8,19 +8,20 @@ use Rattle.exh_keyer.specs.declared.any_keyer.AnyKeyer.{AnyKeyer}
 use Rattle.exh_legal.specs.Pages.{map_of}
 use Rattle.exh_codec.specs.declared.block.TheConstants.{BLOCK_LEN, CONTENT_LEN}
 use Rattle.exh_codec.specs.Block.{sealed}
-use Rattle.exh_format.specs.FileVersion.{format_of, number_of_version, version_of, written_format}
+use Rattle.exh_format.specs.FileVersion.{number_of_version, version_of, written_format}
 use Rattle.exh_format.specs.PageFile.{PageFile, file_bytes}
 use Rattle.exh_format.specs.Reading.{AreBytes}
 use Rattle.exh_format.specs.LegalFile.{IsLegalPageFile}
+use Rattle.exh_versions.specs.LegalBytes.{IsLegalBytes, SaysPlaced}
 use Rattle.exh_ward.specs.WardState.{WardState}
 use Rattle.exh_file.specs.Opened.{OpenedState}
 use Rattle.exh_file.specs.Opening.{IsOpenedFile}
 use Rattle.exh_file.specs.Saved.{written_file}
 
--- the bytes are a legal page file of the version that they say, and the wards are what opening it gives
+-- the bytes say a legal page file, in any version, and the wards are what opening it gives
 pub record OpensAs (bytes : List ℕ) (opened : OpenedState) : Type 0 where
   pub file : PageFile
-  pub legal : IsLegalPageFile (format_of bytes) file bytes
+  pub legal : IsLegalBytes file bytes
   pub wards : IsOpenedFile file opened
 
 -- the ward with its pages and its table now, and nothing of what came before
@@ -49,6 +50,8 @@ abbrev pub in_written : Version → List ℕ → List ℕ
 in_written First bytes = renumbered (number_of_version WRITTEN) bytes
 in_written Second bytes = bytes
 
--- where these wards are what opening some bytes gives, their page file is these bytes again, in the version that is written
-abbrev pub IsWrittenAgain : OpenedState → Type 0
-IsWrittenAgain opened = (bytes : List ℕ) → AreBytes bytes → OpensAs bytes opened → file_bytes written_format (written_file opened) ≡ in_written (version_of bytes) bytes
+-- Where these wards are what opening some bytes gives, in any version, their page file is the file that the bytes say. Of a
+-- version before 3 it is these bytes again, in the version that is written; of version 3 no bytes of a file are.
+pub record IsWrittenAgain (opened : OpenedState) : Type 0 where
+  pub same : (bytes : List ℕ) (opens : OpensAs bytes opened) → AreBytes bytes → written_file opened ≡ opens.file
+  pub again : (bytes : List ℕ) → AreBytes bytes → OpensAs bytes opened → (SaysPlaced bytes → ⊥) → file_bytes written_format (written_file opened) ≡ in_written (version_of bytes) bytes

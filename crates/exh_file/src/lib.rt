@@ -7,11 +7,12 @@ pub use exh_format::{
     FileEntry, FileFault, FileParts, Header, LegalFile, LegalFileFault, ReadFileFault, read_file,
     read_legal_file,
 };
+pub use exh_versions::{AnyFile, FileForm, PlacedForm, read_any_file};
 pub use file_change::change_file;
 pub use open_fault::OpenFault;
 pub use opened::Opened;
-pub use opening::open_over;
-pub use page_file::{open, write_file};
+pub use opening::{open_form_over, open_over};
+pub use page_file::{open, open_form, write_file};
 pub use placing::{Form, Placing, Stamps};
 pub use reply::{is_done, reply_line};
 pub use save_fault::SaveFault;

@@ -1,30 +1,31 @@
 ghost use Rattle.std.specs.Prelude.{◌≡◌, ◌<◌, ◌^◌, List, ℕ, Some, length, map, IfOk, IfErr, MatchResult};
 ghost use Rattle.std.specs.List.{AllByRecursion};
 ghost use Rattle.exh_keyer.specs.Pseudokey.{any_pseudokey};
-ghost use Rattle.exh_format.specs.FileVersion.{format_of};
 ghost use Rattle.exh_format.specs.HeaderImage.{IsKnownHeader};
 ghost use Rattle.exh_format.specs.FileParts.{AreTaking, TakesFormed, file_read};
 ghost use Rattle.exh_format.specs.PageFile.{IsKnownFile, PageFile};
 ghost use Rattle.exh_format.specs.Reading.{AreBytes, IsAll};
 ghost use Rattle.exh_legal.specs.ReasonLaws.{IsLegalFile};
-ghost use Rattle.exh_format.specs.LegalFile.{IsLegalPageFile, parts_in, ward_tables};
+ghost use Rattle.exh_format.specs.LegalFile.{parts_in, ward_tables};
+ghost use Rattle.exh_versions.specs.LegalBytes.{IsLegalBytes};
 ghost use Rattle.exh_file.specs.OpenFault.{HasCounted, HasCountedOne, IsCounted, IsOtherOpening};
-ghost use Rattle.exh_file.specs.Opening.{AreLegalWards, AreOpened, IsLegalWard, IsOpenFaultOf, IsOpenedFile, IsOpenedWard};
+ghost use Rattle.exh_file.specs.Opening.{AreLegalWards, AreOpened, IsLegalWard, IsOpenFaultOf, IsOpenedAs, IsOpenedFile, IsOpenedWard};
 
 use crate::{OpenFault, Opened};
 use exh_codec::ReadPages;
-use exh_format::{Header, LegalFile, push_item, read_legal_file};
+use exh_format::{Header, LegalFile, push_item};
 use exh_keyer::AnyKeyer;
 use exh_legal::legal_files_pass;
 use exh_settings::FileSettings;
 use exh_stores::{Pages, StoreMaker};
 use exh_table::Table;
+use exh_versions::{AnyFile, FileForm, legal_bytes_are_files, read_any_file};
 use exh_ward::Ward;
 use std::alloc::Global;
 use std::io::Read;
 use std::mem;
 
-/// The wards of a legal page file of either version, of which the reader has all bytes and no
+/// The wards of a legal page file of any version, of which the reader has all bytes and no
 /// others. The base of each ward is the map of its pages, its journal and its notices are empty, and
 /// its start table is that of the entries which name it. Their stores are the maker's. A block takes at most 4,097
 /// reads.
@@ -36,15 +37,41 @@ pub fn open_over<R: Read, P: Pages + Drop, M: StoreMaker<P, AnyKeyer>>(
     maker: &M,
     reader: &mut R,
 ) -> Result<Opened<P>, OpenFault>
-    ensures opened { IfOk result (λ opened. (file : PageFile) × (bytes : List ℕ) × IsAll (R.remaining reader.old) bytes × AreBytes bytes × IsLegalPageFile (format_of bytes) file bytes × IsOpenedFile file opened) }
+    ensures opened { IfOk result (λ opened. (file : PageFile) × (bytes : List ℕ) × IsAll (R.remaining reader.old) bytes × AreBytes bytes × IsLegalBytes file bytes × IsOpenedFile file opened) }
     ensures fault { IfErr result (IsOpenFaultOf (R.remaining reader.old)) }
-    ensures every { (file : PageFile) (bytes : List ℕ) → R.remaining reader.old ≡ Some bytes → AreBytes bytes → IsLegalPageFile (format_of bytes) file bytes
+    ensures every { (file : PageFile) (bytes : List ℕ) → R.remaining reader.old ≡ Some bytes → AreBytes bytes → IsLegalBytes file bytes
         → MatchResult result (IsOpenedFile file) IsOtherOpening }
-    ensures counted { IfErr result (λ fault. fault ≡ OpenFault.Page → (file : PageFile) × (bytes : List ℕ) × IsAll (R.remaining reader.old) bytes × AreBytes bytes × IsLegalPageFile (format_of bytes) file bytes
+    ensures counted { IfErr result (λ fault. fault ≡ OpenFault.Page → (file : PageFile) × (bytes : List ℕ) × IsAll (R.remaining reader.old) bytes × AreBytes bytes × IsLegalBytes file bytes
         × HasCountedOne P.pages P.failures file.wards) }
 {
-    let mut legal = read_legal_file(alloc, reader)?;
-    open_legal(alloc, maker, &mut legal)
+    match open_form_over(alloc, maker, reader) {
+        Ok((opened, _form)) => Ok(opened),
+        Err(fault) => Err(fault),
+    }
+}
+
+/// The same, with how the file has its pages in places, so that it can be written again as it stood.
+///
+/// `File` and `Page`: as of `open_over`.
+pub fn open_form_over<R: Read, P: Pages + Drop, M: StoreMaker<P, AnyKeyer>>(
+    alloc: Global,
+    maker: &M,
+    reader: &mut R,
+) -> Result<(Opened<P>, FileForm), OpenFault>
+    ensures opened { IfOk result (λ found. IsOpenedAs (R.remaining reader.old) found.0 found.1) }
+    ensures fault { IfErr result (IsOpenFaultOf (R.remaining reader.old)) }
+    ensures every { (file : PageFile) (bytes : List ℕ) → R.remaining reader.old ≡ Some bytes → AreBytes bytes → IsLegalBytes file bytes
+        → MatchResult result (λ found. IsOpenedFile file found.0) IsOtherOpening }
+    ensures counted { IfErr result (λ fault. fault ≡ OpenFault.Page → (file : PageFile) × (bytes : List ℕ) × IsAll (R.remaining reader.old) bytes × AreBytes bytes × IsLegalBytes file bytes
+        × HasCountedOne P.pages P.failures file.wards) }
+{
+    legal_bytes_are_files();
+    let AnyFile { file, form } = read_any_file(alloc, reader)?;
+    let mut legal = file;
+    match open_legal(alloc, maker, &mut legal) {
+        Ok(opened) => Ok((opened, form)),
+        Err(fault) => Err(fault),
+    }
 }
 
 // The wards of a file that was read. Its pages and tables are taken out of it.

@@ -22,7 +22,7 @@ ghost use Rattle.exh_file.specs.Saved.{AreInOrder, AreShort, AreUnchanged, HasCa
 use crate::SaveFault;
 use crate::header::header_of;
 use exh_codec::BLOCK_LEN;
-use exh_format::{FileEntry, Header, TableWriter, images_are_blocks, one_file, same_blocks};
+use exh_format::{FileEntry, Header, TableWriter, images_are_blocks, same_blocks};
 use exh_keyer::AnyKeyer;
 use exh_legal::{
     fitting_tables_begin_wards, legal_files_pass, legal_tables_have_room, pages_are_few,
@@ -32,15 +32,16 @@ use exh_settings::FileSettings;
 use exh_stores::Pages;
 use exh_stream::{Output, WriteFault};
 use exh_table::Table;
+use exh_versions::{one_legal_file, placed_files_say_files};
 use exh_ward::Ward;
 use std::io::Write;
 
 /// Appends the page file of these wards to the writer of an output that holds nothing back, in the
 /// version that is written: one ward for each number, in order, of these settings. What was written whole is a legal
 /// page file, and opening it gives wards of the same pages and tables; wards that were opened from a
-/// file, with no change since, are written as its very bytes, if it was of the version that is written, and
-/// else with that version's number and the header's digest made anew. The writer isn't flushed. It takes
-/// no memory of its own.
+/// file, with no change since, are written as what it says: as its very bytes, if it was of the version that
+/// is written, as these with that version's number and the header's digest made anew, if of version 1, and
+/// of version 3 in the version that is written. The writer isn't flushed. It takes no memory of its own.
 ///
 /// `Write`: the writer failed or took no bytes. `Page`: a page is out of reach. `Memory`: a growth was
 /// refused. Then a beginning of the file went out. The wards are as before.
@@ -64,8 +65,9 @@ pub fn write_wards<P: Pages + Drop, W: Write>(
     legal_files_pass();
     legal_tables_have_room();
     images_are_blocks();
-    one_file();
+    one_legal_file();
     pages_are_few();
+    placed_files_say_files();
     same_blocks();
     let header = header_of(settings, wards);
     write_parts(output, &header, wards)

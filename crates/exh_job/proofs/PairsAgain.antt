@@ -20,10 +20,10 @@ use Rattle.exh_calls.specs.Effect.{Effect}
 use Rattle.exh_calls.specs.MapMachine.{changed, effect_in}
 use Rattle.exh_calls.specs.declared.call.Call.TheVariants.{Put}
 use Rattle.exh_legal.specs.MapLemmas.{map_of_records}
-use Rattle.exh_format.specs.FileVersion.{format_of}
 use Rattle.exh_format.specs.PageFile.{PageFile, pages_of}
 use Rattle.exh_format.specs.Reading.{AreBytes}
-use Rattle.exh_format.specs.LegalFile.{IsLegalPageFile}
+use Rattle.exh_versions.specs.VersionLaws.{LegalBytesAreFiles}
+use Rattle.exh_versions.specs.VersionLemmas.{pages_are_bytes}
 use Rattle.exh_report.specs.ReportLines.{Lines, lines_text}
 use Rattle.exh_report.specs.PairsText.{first_words, pairs_lines, record_words, records_lines, settings_over}
 use Rattle.exh_report.specs.declared.other_settings.OtherSettings.{OtherSettings}
@@ -99,13 +99,14 @@ no_records wards = let none : fin.len no_map ≡ 0 = fin.len-empty (slice_cmp na
 
 -- ---- the whole text
 
-pub loads_again : LoadsAreOneMaps → NewMapsAreNone → (other : OtherSettings) → PairsLoadAgain other
-loads_again one_maps new_maps other file bytes legal all range same_keyer lesser =
+pub loads_again : LoadsAreOneMaps → NewMapsAreNone → LegalBytesAreFiles → (other : OtherSettings) → PairsLoadAgain other
+loads_again one_maps new_maps are_files other file bytes legal all range same_keyer lesser =
     let settings = settings_over other file.header.settings in
     let records = flat_map records_of (pages_of file.wards) in
     let lines = map record_words records in
-    let can = file_tellable (format_of bytes) file bytes legal.is all in
-    let good = file_good file bytes settings.cap legal lesser in
+    let known = are_files file bytes legal in
+    let can = file_tellable file known.is_known (pages_are_bytes file bytes legal all) in
+    let good = file_good file settings.cap known lesser in
     let fit = all_fit settings.cap (any_pseudokey file.header.settings.keyer) (pages_of file.wards) good.legal good.short good.homes in
     let fits = subst (λ keyer. AllFit settings.cap (any_pseudokey keyer) [] records) (sym same_keyer) fit in
     let start = empty_loading settings.cap settings.ward_bits settings.keyer in

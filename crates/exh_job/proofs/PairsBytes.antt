@@ -1,4 +1,4 @@
--- The keys and values of a page file are bytes, in their ranges, where the file is of bytes.
+-- The keys and values of a page file are bytes, in their ranges, where the blocks of its pages are of bytes.
 use Rattle.std.proofs.Common.{ℕ, ◌<◌, List, [], ◌∷◌, ◌++◌, length, map, subst}
 use Rattle.std.specs.List.{AllByRecursion, flat_map}
 use Rattle.std.specs.Prelude.{replicate, ◌-◌}
@@ -14,9 +14,9 @@ use Rattle.exh_codec.specs.PageImage.{IsPage, content_of, used_of}
 use Rattle.exh_codec.specs.Head.{head_bytes, head_of}
 use Rattle.exh_codec.specs.declared.block.TheConstants.{CONTENT_LEN}
 use Rattle.sha2.specs.Sha256.{sha256}
+use Rattle.exh_prefix.specs.Layout.{layout}
 use Rattle.exh_prefix.specs.Version.{Version}
-use Rattle.exh_format.specs.FileVersion.{FileVersion}
-use Rattle.exh_format.specs.PageFile.{IsPageFile, PageFile, header_block, page_block, pages_of, table_blocks, table_bytes}
+use Rattle.exh_format.specs.PageFile.{IsKnownFile, PageFile, page_block, pages_of}
 use Rattle.exh_job.proofs.PairsText.{AreAllBytes, IsTellable}
 
 -- what is made of each of some things is bytes, where all of it is
@@ -55,9 +55,5 @@ pages_tellable version pseudo (page ∷ pages) all are =
     (all_tellable (records_of page) (each_bytes pair_image (map pair_of (records_of page)) (pairs_bytes page all.0)) (sized_of version pseudo page are.0))
     (pages_tellable version pseudo pages all.1 are.1)
 
-pub file_tellable : (version : FileVersion) (file : PageFile) (bytes : List ℕ) → IsPageFile version file bytes → AreAllBytes bytes → AllByRecursion IsTellable (flat_map records_of (pages_of file.wards))
-file_tellable version file bytes is all =
-    let pages = pages_of file.wards in
-    let table = table_bytes version.images (table_blocks (length file.entries)) file.entries in
-    let behind = AllByRecursion-append_right (λ byte. byte < 256) (header_block version file.header) (flat_map page_block pages ++ table) (subst AreAllBytes is.whole all) in
-    pages_tellable version.images (any_pseudokey file.header.settings.keyer) pages (each_bytes page_block pages (AllByRecursion-append_left (λ byte. byte < 256) (flat_map page_block pages) table behind)) is.valid.pages
+pub file_tellable : (file : PageFile) → IsKnownFile file → AllByRecursion (λ page. AreAllBytes (page_block page)) (pages_of file.wards) → AllByRecursion IsTellable (flat_map records_of (pages_of file.wards))
+file_tellable file valid blocks = pages_tellable (layout valid.0) (any_pseudokey file.header.settings.keyer) (pages_of file.wards) blocks valid.1.pages

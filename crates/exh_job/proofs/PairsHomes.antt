@@ -18,10 +18,9 @@ use Rattle.exh_legal.specs.BareLemmas.{bare_at}
 use Rattle.exh_legal.specs.MapLemmas.{all_pages}
 use Rattle.exh_legal.specs.LegalPlaceLemmas.{home_bare}
 use Rattle.exh_legal.specs.Pages.{IsAt, IsHome, IsLegal, IsLegalPage, IsWithin}
-use Rattle.exh_format.specs.FileVersion.{format_of, version_of}
 use Rattle.exh_format.specs.PageFile.{PageFile, pages_of}
-use Rattle.exh_format.specs.LegalFile.{IsLegalPageFile}
 use Rattle.exh_format.specs.LegalFileLemmas.{count_of_wards}
+use Rattle.exh_versions.specs.VersionLaws.{IsKnownLegal}
 use Rattle.exh_job.proofs.PairsFit.{AreApartPages, HaveOneHome, IsShort}
 
 -- ---- pages of a list
@@ -105,12 +104,12 @@ module _ (cap bits : ℕ) (pseudo : List ℕ → ℕ) where
       }
 
 -- all pages of a legal file, by a cap that is no smaller than the file's
-pub file_good : (file : PageFile) (bytes : List ℕ) (cap : ℕ) → IsLegalPageFile (format_of bytes) file bytes → file.header.settings.cap ≤ cap
+pub file_good : (file : PageFile) (cap : ℕ) → IsKnownLegal file → file.header.settings.cap ≤ cap
     → AreGood cap file.header.settings.ward_bits (any_pseudokey file.header.settings.keyer) 0 (pages_of file.wards)
-file_good file bytes cap legal lesser =
+file_good file cap legal lesser =
     let settings = file.header.settings in
     wards_good cap settings.ward_bits (any_pseudokey settings.keyer) file.wards 0 (λ number pages there.
     let same : number ≡ 0 + number = omega arith in
-    let small : number < 2 ^ settings.ward_bits = omega (arith, slice_get_within file.wards number pages there, count_of_wards file (version_of bytes, legal.is.valid)) in
+    let small : number < 2 ^ settings.ward_bits = omega (arith, slice_get_within file.wards number pages there, count_of_wards file legal.is_known) in
     subst (λ n. IsGood cap settings.ward_bits (any_pseudokey settings.keyer) n pages) same
     (ward_good cap settings.ward_bits (any_pseudokey settings.keyer) number settings.cap pages small lesser (legal.legal.wards number pages there).legal.legal))

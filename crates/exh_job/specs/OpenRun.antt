@@ -2,10 +2,9 @@
 use Rattle.std.specs.Prelude.{◌≡◌, ◌⊎◌, ℕ, Bool, List, [], ◌∷◌, ◌++◌, codes, Option, Result, Ok, Err}
 use Rattle.exh_text.specs.Contents.{on_line}
 use Rattle.exh_text.specs.Printing.{refused_text}
-use Rattle.exh_format.specs.FileVersion.{format_of}
 use Rattle.exh_format.specs.PageFile.{PageFile}
 use Rattle.exh_format.specs.Reading.{AreBytes, IsAll}
-use Rattle.exh_format.specs.LegalFile.{IsLegalPageFile}
+use Rattle.exh_versions.specs.LegalBytes.{IsLegalBytes}
 use Rattle.exh_file.specs.Opened.{OpenedState}
 use Rattle.exh_file.specs.Opening.{IsOpenedFile, IsOpenFaultOf}
 use Rattle.exh_file.specs.declared.open_fault.OpenFault.{OpenFault}
@@ -21,7 +20,7 @@ pub record IsOpenedFrom (known : Option (List ℕ)) (opened : OpenedState) : Typ
   pub bytes : List ℕ
   pub all : IsAll known bytes
   pub are_bytes : AreBytes bytes
-  pub legal : IsLegalPageFile (format_of bytes) file bytes
+  pub legal : IsLegalBytes file bytes
   pub is : IsOpenedFile file opened
 
 -- the only line where a file can't be opened

@@ -5,10 +5,9 @@ use Rattle.exh_keyer.specs.declared.any_keyer.AnyKeyer.{AnyKeyer}
 use Rattle.exh_settings.specs.FileSettings.{AreInRange}
 use Rattle.exh_settings.specs.declared.file_settings.FileSettings.{FileSettings}
 use Rattle.exh_legal.specs.Pages.{map_of}
-use Rattle.exh_format.specs.FileVersion.{format_of}
 use Rattle.exh_format.specs.PageFile.{PageFile, pages_of}
 use Rattle.exh_format.specs.Reading.{AreBytes}
-use Rattle.exh_format.specs.LegalFile.{IsLegalPageFile}
+use Rattle.exh_versions.specs.LegalBytes.{IsLegalBytes}
 use Rattle.exh_text.specs.TextLines.{lines_of}
 use Rattle.exh_report.specs.ReportLines.{lines_text}
 use Rattle.exh_report.specs.PairsText.{pairs_lines, settings_over}
@@ -32,7 +31,7 @@ pub record LoadsAgain (settings : FileSettings AnyKeyer) (file : PageFile) (text
 -- so it is of the text of a legal file, with its own keyer and a cap that is no smaller, whatever the wards are
 abbrev pub PairsLoadAgain : OtherSettings → Type 0
 PairsLoadAgain other =
-    (file : PageFile) (bytes : List ℕ) → IsLegalPageFile (format_of bytes) file bytes → AreBytes bytes → let settings = settings_over other file.header.settings in
+    (file : PageFile) (bytes : List ℕ) → IsLegalBytes file bytes → AreBytes bytes → let settings = settings_over other file.header.settings in
     AreInRange settings → settings.keyer ≡ file.header.settings.keyer → file.header.settings.cap ≤ settings.cap → LoadsAgain settings file (lines_text (pairs_lines other file))
 
 -- of what is told of a file the pairs alone

@@ -6,9 +6,9 @@ use Rattle.exh_stream.specs.Output.{AppendsBeginning, Takes, TakesBeginning, Wri
 use Rattle.exh_stream.specs.OutputLemmas.{AppendsBeginning-of_more, Takes-cut, Takes-finished, TakesBeginning-left}
 use Rattle.exh_stream.specs.declared.output.Output.{Output}
 use Rattle.exh_format.specs.PageFile.{PageFile}
-use Rattle.exh_format.specs.LegalFile.{IsLegalFileFaultOf}
 use Rattle.exh_format.specs.declared.legal_file_fault.LegalFileFault.{LegalFileFault}
 use Rattle.exh_format.specs.declared.legal_file_fault.LegalFileFault.TheVariants as faults
+use Rattle.exh_versions.specs.FirstFault.{IsFirstFaultOf}
 use Rattle.exh_report.specs.Finding.{Finding, IsFindingOf, refusal_words, told_lines}
 use Rattle.exh_report.specs.ReportLines.{Lines, Prints, lines_text}
 use Rattle.exh_report.specs.Report.{Tells}
@@ -49,7 +49,7 @@ module _ (prints begins : List ℕ → Type 0) (lines : PageFile → Lines) (kno
       subst (λ f. Tells prints begins lines known (Err f)) (sym is.1) (record { finding = finding; found = found; printed = begun; verdict = tt })
 
   -- a refusal that isn't want of memory is told
-  pub refused_tells : (fault : LegalFileFault) → (fault ≡ faults.Memory → ⊥) → IsLegalFileFaultOf known fault → (result : Result Verdict ReportFault)
+  pub refused_tells : (fault : LegalFileFault) → (fault ≡ faults.Memory → ⊥) → IsFirstFaultOf known fault → (result : Result Verdict ReportFault)
       → Prints prints begins (refusal_words fault ∷ []) result → IfOk result (λ verdict. verdict ≡ Refused) → Tells prints begins lines known result
   refused_tells faults.Memory other found result told verdict = absurd (other refl)
   refused_tells faults.Read other found result told verdict = record { finding = Err faults.Read; found = found; printed = told; verdict = verdict }

@@ -2,13 +2,13 @@
 use Rattle.std.specs.Prelude.{◌≡◌, ℕ, List, [], ◌∷◌, ◌++◌, Option, Result, Ok, Err, decimal, codes}
 use Rattle.std.specs.Option.{option_map_or}
 use Rattle.exh_text.specs.Printing.{refused_text}
-use Rattle.exh_format.specs.FileVersion.{format_of}
 use Rattle.exh_format.specs.PageFile.{PageFile}
 use Rattle.exh_format.specs.Reading.{AreBytes, IsAll}
-use Rattle.exh_format.specs.LegalFile.{IsLegalFileFaultOf, IsLegalPageFile}
 use Rattle.exh_format.specs.LegalFileFault.{fault_place, fault_reason, legal_file_fault_number}
 use Rattle.exh_format.specs.declared.legal_file_fault.LegalFileFault.{LegalFileFault}
 use Rattle.exh_format.specs.declared.legal_file_fault.LegalFileFault.TheVariants.{Memory}
+use Rattle.exh_versions.specs.FirstFault.{IsFirstFaultOf}
+use Rattle.exh_versions.specs.LegalBytes.{IsLegalBytes}
 use Rattle.exh_report.specs.ReportLines.{Lines}
 use Rattle.exh_report.specs.declared.verdict.Verdict.{Verdict}
 use Rattle.exh_report.specs.declared.verdict.Verdict.TheVariants.{Legal, Refused}
@@ -18,8 +18,8 @@ Finding = Result PageFile LegalFileFault
 
 -- it is found of bytes, which are these where they are known
 abbrev pub IsFindingOf : Option (List ℕ) → Finding → Type 0
-IsFindingOf known (Ok file) = (bytes : List ℕ) × IsAll known bytes × AreBytes bytes × IsLegalPageFile (format_of bytes) file bytes
-IsFindingOf known (Err fault) = IsLegalFileFaultOf known fault
+IsFindingOf known (Ok file) = (bytes : List ℕ) × IsAll known bytes × AreBytes bytes × IsLegalBytes file bytes
+IsFindingOf known (Err fault) = IsFirstFaultOf known fault
 
 -- ---- a refusal
 

@@ -15,9 +15,10 @@ use crate::dump::dump_parts;
 use crate::pairs::pairs_parts;
 use crate::refusal_line::push_refusal;
 use crate::{OtherSettings, ReportFault, Verdict};
-use exh_format::{FileParts, LegalFileFault, read_legal_file};
+use exh_format::{FileParts, LegalFileFault};
 use exh_page::Page;
 use exh_stream::Output;
+use exh_versions::{legal_bytes_are_files, read_any_file};
 use std::alloc::Global;
 use std::io::{Read, Write};
 
@@ -125,8 +126,9 @@ fn tell<R: Read, W: Write>(
     ensures told { Tells (Takes W.contents output.old output.new) (TakesBeginning W.contents output.old output.new) (topic_lines topic) (R.remaining reader.old) result }
     ensures failed { IsErrOf result ReportFault.Write ↔ IsTrue (writer_failed output.new) }
 {
-    match read_legal_file(alloc, reader) {
-        Ok(file) => tell_parts(alloc, topic, output, &file.parts),
+    legal_bytes_are_files();
+    match read_any_file(alloc, reader) {
+        Ok(found) => tell_parts(alloc, topic, output, &found.file.parts),
         Err(fault) => refuse(alloc, output, fault),
     }
 }

@@ -1,7 +1,6 @@
-use Rattle.std.proofs.Common.{◌≡◌, ℕ, List, [], refl, sym, ap, ◌∙◌, subst, arith}
+use Rattle.std.proofs.Common.{◌≡◌, List, [], refl, sym, ap, ◌∙◌, subst, arith}
 use Rattle.exh_prefix.specs.Leading.{ward_prefix}
 use Rattle.exh_format.specs.HeaderLemmas.{few_wards}
-use Rattle.exh_format.specs.declared.header.Header.{Header}
 use Rattle.exh_keyer.specs.Pseudokey.{any_pseudokey}
 use Rattle.exh_keyer.specs.declared.any_keyer.AnyKeyer.{AnyKeyer}
 use Rattle.exh_legal.specs.LegalLaws.{IsWard}

@@ -51,8 +51,8 @@ pub returns-clause-opens : goal.returns-clause-opens
 returns-clause-opens g c =
     let opened = in_file c.args.settings c.args.wards.now in
     both_ok
-    (λ ranges valid. is_kept opened c.requires.wards c.header_of-header.ensures.sound c.fitting_tables_begin_wards.ensures c.legal_files_pass.ensures c.pages_are_few.ensures c.legal_tables_have_room.ensures ranges valid c.one_file.ensures)
+    (λ ranges valid. is_kept opened c.requires.wards c.header_of-header.ensures.sound c.fitting_tables_begin_wards.ensures c.legal_files_pass.ensures c.pages_are_few.ensures c.legal_tables_have_room.ensures ranges valid c.one_legal_file.ensures)
     c.write_parts.result c.write_parts.ensures.pages c.write_parts.ensures.entries
 
 pub returns-clause-again : goal.returns-clause-again
-returns-clause-again g c = is_again (in_file c.args.settings c.args.wards.now) c.requires.wards c.header_of-header.ensures.sound c.fitting_tables_begin_wards.ensures c.images_are_blocks.ensures.headers c.same_blocks.ensures
+returns-clause-again g c = is_again (in_file c.args.settings c.args.wards.now) c.requires.wards c.header_of-header.ensures.sound c.fitting_tables_begin_wards.ensures c.placed_files_say_files.ensures c.images_are_blocks.ensures.headers c.same_blocks.ensures

@@ -1,16 +1,15 @@
 use Rattle.std.proofs.Common.{Ok, Err}
-use Rattle.exh_format.specs.FileVersion.{version_of}
 use Rattle.exh_format.specs.FileParts.{file_of}
 use Rattle.exh_report.specs.Report.{topic_lines}
 use Rattle.exh_report.proofs.report.tell.Goals as goal
 
 pub tell_parts-requires-clause-file : goal.tell_parts-requires-clause-file
-tell_parts-requires-clause-file g c = let legal = c.in-Ok.ensures.legal in (version_of legal.0, legal.3.is.valid)
+tell_parts-requires-clause-file g c = let read = c.in-Ok.ensures.legal in (c.legal_bytes_are_files.ensures _ read.bytes read.legal).is_known
 
 pub returns-in-Ok-clause-told : goal.returns-in-Ok-clause-told
 returns-in-Ok-clause-told g c = record {
-  finding = Ok (file_of c.in-Ok.file.parts);
-  found = c.in-Ok.ensures.legal;
+  finding = Ok (file_of c.in-Ok.found.file.parts);
+  found = (let read = c.in-Ok.ensures.legal in (read.bytes, read.all, read.are_bytes, read.legal));
   printed = c.tell_parts.ensures.told;
   verdict = c.tell_parts.ensures.verdict;
 }

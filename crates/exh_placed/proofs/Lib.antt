@@ -1,0 +1,14 @@
+pub mod Elements
+pub mod Blocks
+pub mod Pages
+pub mod Places
+pub mod Headers
+pub mod NoFault
+pub mod OneFile
+pub mod Placed
+pub mod Groups
+pub mod Files
+pub mod Read
+pub mod Legal
+pub mod LegalRead
+pub mod Plain

@@ -1,0 +1,5 @@
+pub mod WardEntries
+pub mod Told
+pub mod Plain
+pub mod OneFile
+pub mod Read
