@@ -1,5 +1,5 @@
 -- The bytes of places, one after the other, are those of groups.
-use Rattle.std.proofs.Common.{◌≡◌, ℕ, zero, suc, ◌+◌, ◌-◌, ◌%◌, ◌<◌, Bool, nat_eq, eq-eqb, cond, false, List, [], ◌∷◌, ◌++◌, length, take, drop, refl, sym, ap, ◌∙◌, inl, inr, append_assoc, append-nil, arith, Option, Some}
+use Rattle.std.proofs.Common.{◌≡◌, ℕ, zero, suc, ◌+◌, ◌-◌, ◌%◌, ◌<◌, Bool, nat_eq, eq-eqb, cond, false, List, [], ◌∷◌, ◌++◌, length, take, drop, refl, sym, ap, ◌∙◌, inl, inr, append_assoc, append-nil, arith, Option, Some, ◌≤◌}
 use Rattle.std.specs.List.{flat_map, range_with_len, slice_get}
 use Rattle.std.specs.Option.{option_map_or}
 use Rattle.std.proofs.lemmas.Bool.{cases_lt}
@@ -129,3 +129,19 @@ places_follow file place page is =
     let here : each place ≡ opening file.cells place ++ page_block page = ap (λ (found : Option Page). opening file.cells place ++ option_map_or page_block found []) is in
     ap (λ (rest : List ℕ). stamped_block file.header ++ rest) (flat_more each place ∙ ap (λ (last : List ℕ). before ++ last) here)
     ∙ sym (append_assoc (stamped_block file.header) before (opening file.cells place ++ page_block page))
+
+pub headers_begin : (file : PlacedFile) → bytes_to file 0 ≡ stamped_block file.header
+headers_begin file = append-nil (stamped_block file.header)
+
+pub places_begin : (file : PlacedFile) (places : ℕ) → places ≤ length file.pages → (rest : List ℕ) × (placed_bytes file ≡ bytes_to file places ++ rest)
+places_begin file places within =
+    let each = place_bytes file.pages file.cells in
+    let left = length file.pages - places in
+    let before = flat_map each (range_with_len 0 places) in
+    let rest = flat_map each (range_with_len places left) in
+    let all : length file.pages ≡ places + left = omega (arith, within) in
+    let from : 0 + places ≡ places = omega arith in
+    let whole : flat_map each (range_with_len 0 (length file.pages)) ≡ before ++ rest =
+    ap (λ (n : ℕ). flat_map each (range_with_len 0 n)) all ∙ ap (flat_map each) (range_split left places 0 ∙ ap (λ (n : ℕ). range_with_len 0 places ++ range_with_len n left) from)
+    ∙ flat_map-append each (range_with_len 0 places) (range_with_len places left) in
+    (rest, sym (places_make_file file) ∙ ap (λ (bytes : List ℕ). stamped_block file.header ++ bytes) whole ∙ sym (append_assoc (stamped_block file.header) before rest))

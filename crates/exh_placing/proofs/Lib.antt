@@ -13,3 +13,5 @@ pub mod Groups
 pub mod WardFiles
 -- of told_tables_have_places
 pub mod ToldPlaces
+-- of files_of_wards_are_placed
+pub mod PlacedFiles

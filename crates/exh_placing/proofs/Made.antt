@@ -6,7 +6,7 @@ use Rattle.std.specs.Option.{option_map}
 use Rattle.std.specs.Prelude.{slice_set}
 use Rattle.std.proofs.lemmas.Bool.{cases_eq, cases_lt}
 use Rattle.std.proofs.lemmas.Bool.Decides.{eqb_tells}
-use Rattle.std.proofs.lemmas.List.{get_or-set_other, get_or-set_same}
+use Rattle.std.proofs.lemmas.List.{get_or-set_other, get_or-set_same, length-append}
 use Rattle.std.proofs.lemmas.List.Sums.{count_by_more_no, count_by_more_yes}
 use Rattle.std.proofs.lemmas.Nat.{pow_below}
 use Rattle.std.proofs.lemmas.Option.{get_or_from_slice_get, slice_get-map, slice_get_within}
@@ -47,6 +47,17 @@ AreMadeCells ward_bits lows tables places count cells = (place low : ℕ) (cell 
 
 not_eqb : (one other : ℕ) → (one ≡ other → ⊥) → nat_eq one other ≡ false
 not_eqb one other differ = elim (eqb_tells one other) [ inl same ↦ absurd (differ same.1) | inr else ↦ else.0 ]
+
+pub one_longer : (cells new : List Cell) (cell : Cell) (count : ℕ) → new ≡ cells ++ cell ∷ [] → length cells ≡ count → length new ≡ count + 1
+one_longer cells new cell count is long = ap length is ∙ length-append cells (cell ∷ []) ∙ ap (λ (n : ℕ). n + 1) long
+
+pub own_made : (ward_bits : ℕ) (lows : List ℕ) (places : List (ℕ × ℕ)) (table : TableMap) (place low at number : ℕ) (cell : Cell) → at ≡ ward_of ward_bits low → cell.number ≡ number → number ≡ pages_in ward_bits at (take place lows)
+    → IsCell cell → AreSlotsFor places table low cell.slots → IsMadeCell ward_bits lows places table place low cell
+own_made ward_bits lows places table place low at number cell at_is is counted valid slots = record {
+  number = is ∙ counted ∙ ap (λ (ward : ℕ). pages_in ward_bits ward (take place lows)) at_is;
+  valid = valid;
+  slots = slots;
+}
 
 -- ---- one page more
 

@@ -1,8 +1,8 @@
 //! What holds of legal wards and of files: each function changes nothing, and its contract is a law.
 ghost use Rattle.exh_placing.specs.Placed.{ToldTablesHavePlaces};
 ghost use Rattle.exh_placing.specs.PlacingLaws.{LegalWardsHavePlaces, OrdersGivePages};
-ghost use Rattle.exh_placing.specs.WardFile.{LegalWardsGiveFiles};
-ghost use Rattle.exh_placing.specs.Writing.{PlacesFollow, PlacesMakeFile};
+ghost use Rattle.exh_placing.specs.WardFile.{FilesOfWardsArePlaced, LegalWardsGiveFiles};
+ghost use Rattle.exh_placing.specs.Writing.{HeadersBegin, PlacesBeginFile, PlacesFollow, PlacesMakeFile};
 
 use exh_cells::{cells_and_tables_tell, slots_are_entries};
 
@@ -12,11 +12,13 @@ pub fn legal_wards_have_places()
     ensures { LegalWardsHavePlaces }
 {}
 
-/// The header's block and those of all places, one after the other, are the bytes of a file; behind those of so many
-/// places comes what `write_place` writes. It takes no memory.
+/// The header's block and those of all places, one after the other, are the bytes of a file, and those of the first
+/// places are a beginning of them; behind those of so many places comes what `write_place` writes. It takes no memory.
 pub fn places_make_files()
+    ensures header { HeadersBegin }
     ensures follow { PlacesFollow }
     ensures whole { PlacesMakeFile }
+    ensures beginning { PlacesBeginFile }
 {}
 
 /// A file that has the pages of legal wards in an order, their counts, and cells that tell of their tables is legal; its
@@ -38,3 +40,9 @@ pub fn told_tables_have_places()
 {
     slots_are_entries();
 }
+
+/// A file that has the pages of wards in an order, their counts, and cells that tell of their tables is one that has
+/// bytes, where its header is one that a file may have and the wards' pages have images. It takes no memory.
+pub fn files_of_wards_are_placed()
+    ensures { FilesOfWardsArePlaced }
+{}

@@ -3,8 +3,8 @@
 
 pub use cells::cells_of_tables;
 pub use laws::{
-    legal_wards_give_files, legal_wards_have_places, orders_give_pages, places_make_files,
-    told_tables_have_places,
+    files_of_wards_are_placed, legal_wards_give_files, legal_wards_have_places, orders_give_pages,
+    places_make_files, told_tables_have_places,
 };
 pub use order::{first_order, grown_order, order_of_lows};
 pub use page_at::PageAt;
@@ -12,6 +12,8 @@ pub use table_list::TableList;
 pub use writing::{write_header, write_place};
 
 mod cells;
+#[cfg(test)]
+mod examples;
 mod laws;
 mod order;
 mod page_at;

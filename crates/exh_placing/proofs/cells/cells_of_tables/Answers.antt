@@ -1,10 +1,9 @@
-use Rattle.std.proofs.Common.{◌≡◌, ℕ, ◌<◌, ◌+◌, ◌∷◌, [], length, take, get_or, sym, ap, ◌∙◌, subst, arith}
+use Rattle.std.proofs.Common.{◌≡◌, ℕ, ◌<◌, ◌+◌, length, get_or, sym, ap, ◌∙◌, subst, arith}
 use Rattle.std.specs.List.{slice_get}
-use Rattle.std.proofs.lemmas.List.{length-append, length-set}
+use Rattle.std.proofs.lemmas.List.{length-set}
 use Rattle.std.proofs.lemmas.Option.{slice_get-get_or}
 use Rattle.exh_prefix.specs.Leading.{ward_of}
-use Rattle.exh_cells.specs.Fit.{pages_in}
-use Rattle.exh_placing.proofs.Made.{AreMadeCells, IsMadeCell, all_words, cells_told, more_counted, more_made, right_placed}
+use Rattle.exh_placing.proofs.Made.{AreMadeCells, all_words, cells_told, more_counted, more_made, one_longer, own_made, right_placed}
 use Rattle.exh_placing.proofs.cells.cells_of_tables.Goals as goal
 
 pub cell_of-requires : goal.cell_of-requires
@@ -24,15 +23,12 @@ loop-place-preserved g c =
     let few : at < 16 = c.ward_at-ward.ensures.few in
     let within : place < length lows = c.loop-place-test.true in
     let tables = g.T.TableList.tables c.args.tables.now in
-    let own : IsMadeCell bits lows c.in_ok-places.places.entries c.table.result.now place low c.cell_of.result = record {
-      number = c.cell_of.ensures.number ∙ c.loop-place.invariant.found_are at few ∙ ap (λ (ward : ℕ). pages_in bits ward (take place lows)) at_is;
-      valid = c.cell_of.ensures.cell;
-      slots = c.cell_of.ensures.slots;
-    } in
+    let own = own_made bits lows c.in_ok-places.places.entries c.table.result.now place low at (get_or c.loop-place.found at 0) c.cell_of.result at_is c.cell_of.ensures.number (c.loop-place.invariant.found_are at few)
+    c.cell_of.ensures.cell c.cell_of.ensures.slots in
     record {
       long = length-set c.loop-place.found at (get_or c.loop-place.found at 0 + 1) ∙ c.loop-place.invariant.long;
       found_are = more_counted bits lows place at c.loop-place.found c.loop-place.invariant.long c.loop-place.invariant.found_are within at_is few;
-      count = ap length c.in_ok-push.ensures.items ∙ length-append c.loop-place.cells.items (c.cell_of.result ∷ []) ∙ ap (λ (n : ℕ). n + 1) c.loop-place.invariant.count;
+      count = one_longer c.loop-place.cells.items c.push.new.self.items c.cell_of.result place c.in_ok-push.ensures.items c.loop-place.invariant.count;
       made = more_made bits lows tables c.in_ok-places.places.entries place low c.loop-place.cells.items c.push.new.self.items c.cell_of.result c.table.result.now c.loop-place.invariant.made
           c.loop-place.invariant.count c.in_ok-push.ensures.items (slice_get-get_or lows place 0 within) (ap (slice_get tables) (sym at_is) ∙ c.table.ensures) own;
     }
