@@ -1,6 +1,6 @@
 -- The blocks of a file by their places.
 use Rattle.std.proofs.Common.{◌≡◌, ℕ, zero, suc, ◌+◌, ◌*◌, ◌<◌, ◌≤◌, ◌^◌, List, [], ◌∷◌, ◌++◌, length, map, take, drop, slice_get, Some, refl, sym, ap, ◌∙◌, subst, append_assoc, append-nil, arith}
-use Rattle.std.proofs.lemmas.List.{drop_at, drop-drop, length-append, length-take, take_at, take-map, take-take}
+use Rattle.std.proofs.lemmas.List.{drop-drop, length-take, take-map, take-take}
 use Rattle.std.proofs.lemmas.List.Sums.{sum_by-cons}
 use Rattle.std.specs.List.{AllByRecursion, flat_map, sum}
 use Rattle.exh_keyer.specs.Pseudokey.{any_pseudokey}
@@ -14,50 +14,16 @@ use Rattle.exh_format.specs.HeaderImage.{IsHeaderImage}
 use Rattle.exh_format.specs.HeaderLemmas.{all_counted}
 use Rattle.exh_format.specs.BlockLaws.{HeadersAreBlocks, TablesAreBlocks}
 use Rattle.exh_format.specs.TableImage.{IsFileEntry, IsTableImage}
-use Rattle.exh_format.specs.FileTests.{IsWhole, block_at, bytes_from}
+use Rattle.exh_format.specs.FileTests.{block_at, bytes_from}
 use Rattle.exh_format.specs.PageFile.{IsPageFile, PageFile, header_block, page_block, pages_of, table_block, table_blocks, table_bytes}
 use Rattle.exh_format.specs.ReadingLemmas.{length-pages_of}
 use Rattle.exh_direct.specs.DirectAnswer.{page_place}
 use Rattle.exh_direct.specs.TableSearch.{table_place}
+use Rattle.exh_direct.specs.StandingBlocks.{StandsAt, behind_all, drop_next, one_of, stands}
 
 -- the entries of one block of a table: as many as there is room for, in the last the others
 abbrev pub block_of : ℕ → List FileEntry → List FileEntry
 block_of number entries = take 254 (drop (254 * number) entries)
-
--- a block stands at a place, whole
-pub record StandsAt (place : ℕ) (bytes block : List ℕ) : Type 0 where
-  pub whole : IsWhole place bytes
-  pub is : block_at place bytes ≡ block
-
-stands : (place : ℕ) (bytes block rest : List ℕ) → bytes_from place bytes ≡ block ++ rest → length block ≡ 4096 → StandsAt place bytes block
-stands place bytes block rest is len = record {
-  whole = omega (arith, ap length is, length-append block rest, len);
-  is = ap (take 4096) is ∙ take_at block rest 4096 len;
-}
-
--- ---- of blocks one after the other
-
-drop_next : (i : ℕ) (block rest : List ℕ) → length block ≡ 4096 → drop (4096 * suc i) (block ++ rest) ≡ drop (4096 * i) rest
-drop_next i block rest len =
-    let next : 4096 * suc i ≡ 4096 + 4096 * i = omega arith in
-    ap (λ (n : ℕ). drop n (block ++ rest)) next ∙ sym (drop-drop (4096 * i) 4096 (block ++ rest)) ∙ ap (drop (4096 * i)) (drop_at block rest 4096 len)
-
-module _ {X : Type 0} (f : X → List ℕ) where
-  abbrev AreBlocks : List X → Type 0
-  AreBlocks xs = AllByRecursion (λ x. length (f x) ≡ 4096) xs
-
-  one_of : (xs : List X) (i : ℕ) (x : X) (rest : List ℕ) → AreBlocks xs → slice_get xs i ≡ Some x → (after : List ℕ) × (drop (4096 * i) (flat_map f xs ++ rest) ≡ f x ++ after)
-  one_of [] i x rest len is = cc
-  one_of (y ∷ xs) zero x rest len is =
-      let same : y ≡ x = cc in
-      (flat_map f xs ++ rest, append_assoc (f y) (flat_map f xs) rest ∙ ap (λ (x : X). f x ++ (flat_map f xs ++ rest)) same)
-  one_of (y ∷ xs) (suc i) x rest len is =
-      let more = one_of xs i x rest len.1 is in
-      (more.0, ap (drop (4096 * suc i)) (append_assoc (f y) (flat_map f xs) rest) ∙ drop_next i (f y) (flat_map f xs ++ rest) len.0 ∙ more.1)
-
-  behind_all : (xs : List X) (rest : List ℕ) → AreBlocks xs → drop (4096 * length xs) (flat_map f xs ++ rest) ≡ rest
-  behind_all [] rest len = refl
-  behind_all (y ∷ xs) rest len = ap (drop (4096 * suc (length xs))) (append_assoc (f y) (flat_map f xs) rest) ∙ drop_next (length xs) (f y) (flat_map f xs ++ rest) len.0 ∙ behind_all xs rest len.1
 
 -- ---- a page among those of all wards
 

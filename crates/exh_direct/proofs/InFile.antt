@@ -1,5 +1,5 @@
 -- What is answered of a key of a legal file: nothing but its map.
-use Rattle.std.proofs.Common.{◌≡◌, ℕ, zero, suc, ◌+◌, ◌*◌, ◌<◌, ◌≤◌, ◌^◌, Bool, cond, List, [], ◌∷◌, ◌++◌, length, map, take, drop, get_or, slice_get, slice_index, inl, inr, Option, None, Some, Result, Ok, Err, refl, sym, ap, ◌∙◌, subst, take-append-drop, arith}
+use Rattle.std.proofs.Common.{◌≡◌, ℕ, zero, suc, ◌+◌, ◌*◌, ◌<◌, ◌≤◌, ◌^◌, Bool, cond, List, [], ◌∷◌, ◌++◌, length, map, take, drop, get_or, slice_get, inl, inr, Option, None, Some, Result, Ok, Err, refl, sym, ap, ◌∙◌, subst, take-append-drop, arith}
 use Rattle.std.specs.Prelude.{IfErr, IfOk, MatchResult}
 use Rattle.std.specs.List.{AllByRecursion}
 use Rattle.std.specs.FinMap.{empty, get}
@@ -15,7 +15,6 @@ use Rattle.exh_keyer.specs.PseudokeyFits.{any_pseudokey-lt}
 use Rattle.exh_prefix.specs.BitLemmas.{bits_of-number_of}
 use Rattle.exh_prefix.specs.Bits.{bits_of, word_bits}
 use Rattle.exh_prefix.specs.Leading.{ward_prefix}
-use Rattle.exh_prefix.specs.PrefixListLemmas.{AllByRecursion-append_left, AllByRecursion-append_right}
 use Rattle.exh_prefix.specs.LeadingLemmas.{leading-lt, length-leading_bits}
 use Rattle.exh_prefix.specs.Prefix.{Begins, begins, low_of}
 use Rattle.exh_prefix.specs.PrefixLemmas.{begins_low, is_front-true}
@@ -49,7 +48,7 @@ use Rattle.exh_format.specs.TableImage.{AreRising, IsTableImage, prefixes_of}
 use Rattle.exh_format.specs.FileTests.{HeaderFails, IsWhole, PageFails, TableFails, block_at, bytes_from}
 use Rattle.exh_format.specs.PageFile.{PageFile, page_block, table_block, table_blocks}
 use Rattle.exh_format.specs.Reading.{AreBytes, last_prefix}
-use Rattle.exh_format.specs.ReadingLemmas.{byte_at, rising_back, rising_front}
+use Rattle.exh_format.specs.ReadingLemmas.{rising_back, rising_front}
 use Rattle.exh_format.specs.LegalFile.{IsLegalPageFile, parts_in, table_naming}
 use Rattle.exh_format.specs.LegalFileLemmas.{count_of_wards, few_bits, table_naming_at}
 use Rattle.exh_direct.specs.declared.direct_fault.DirectFault.{DirectFault}
@@ -63,24 +62,9 @@ use Rattle.exh_direct.specs.DirectLaws.{FindsInFile, IsOtherFault, map_in}
 use Rattle.exh_direct.specs.Way.{lead_of, lead_right}
 use Rattle.exh_direct.proofs.Searches.{all_at, places_by_number}
 use Rattle.exh_direct.proofs.Told.{walk_is}
-use Rattle.exh_direct.proofs.FileBlocks.{StandsAt, block_image, block_of, header_is, header_stands, page_image, page_stands, table_stands}
-
--- ---- no fault where all tests are passed
-
--- a whole block that doesn't fail has no fault of the file
-no_fault : (Fails : List ℕ → FileFault → Type 0) (bytes : List ℕ) (place : ℕ) (fault : DirectFault) → IsWhole place bytes → ((file : FileFault) → Fails (block_at place bytes) file → ⊥) → BlockFails Fails (Some bytes) place fault → IsOtherFault fault
-no_fault Fails bytes place (File file) whole none (inl cut) = absurd (omega (arith, whole, cut.0))
-no_fault Fails bytes place (File file) whole none (inr fails) = none file fails.1
-no_fault Fails bytes place Astray whole none fails = fails
-no_fault Fails bytes place Read whole none fails = tt
-no_fault Fails bytes place Memory whole none fails = tt
-
-bytes_of_block : (place : ℕ) (bytes : List ℕ) → AreBytes bytes → (i : ℕ) → slice_index (block_at place bytes) i < 256
-bytes_of_block place bytes small =
-    let IsByte : ℕ → Type 0 = λ (byte : ℕ). byte < 256 in
-    let behind : List ℕ = bytes_from place bytes in
-    let all : AreBytes behind = AllByRecursion-append_right IsByte (take (4096 * place) bytes) behind (subst AreBytes (sym (take-append-drop (4096 * place) bytes)) small) in
-    byte_at (block_at place bytes) (AllByRecursion-append_left IsByte (block_at place bytes) (drop 4096 behind) (subst AreBytes (sym (take-append-drop 4096 behind)) all))
+use Rattle.exh_direct.specs.BlockFaultLemmas.{no_fault}
+use Rattle.exh_direct.specs.StandingBlocks.{StandsAt, bytes_of_block}
+use Rattle.exh_direct.proofs.FileBlocks.{block_image, block_of, header_is, header_stands, page_image, page_stands, table_stands}
 
 -- ---- entries by their blocks
 

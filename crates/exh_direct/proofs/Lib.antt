@@ -1,6 +1,3 @@
-pub mod Once
-pub mod BlockFaults
-pub mod Walks
 pub mod Tables
 pub mod Searches
 pub mod Told

@@ -14,7 +14,7 @@ use Rattle.exh_direct.specs.declared.table_block.TableBlock.{TableBlock}
 use Rattle.exh_direct.specs.DirectAnswer.{Finds, IsLastRead, IsWay, Refuses, RefusesBehind, pages_in, place_in, ward_in}
 use Rattle.exh_direct.specs.KnownBlocks.{MayRead, ReadsOnce}
 use Rattle.exh_direct.specs.TableSearch.{numbers_of, places_in, table_place}
-use Rattle.exh_direct.proofs.Once.{distinct_behind_zero, distinct_join, distinct_more, distinct_places, none_twice}
+use Rattle.exh_direct.specs.OnceLemmas.{distinct_behind_zero, distinct_join, distinct_more, distinct_places, none_twice}
 use Rattle.exh_direct.proofs.Searches.{places_by_number}
 
 -- ---- where pages and table blocks stand

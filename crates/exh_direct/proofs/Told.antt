@@ -22,7 +22,7 @@ use Rattle.exh_format.specs.RisingLemmas.{all_after}
 use Rattle.exh_format.specs.TableImage.{AreRising, prefixes_of}
 use Rattle.exh_direct.specs.declared.table_block.TableBlock.{TableBlock}
 use Rattle.exh_direct.specs.TableSearch.{BeginsBehind, EndsBefore, HasComeTo, IsEntryAt, Tells, TellsRight, WalkEnds, right_told}
-use Rattle.exh_direct.proofs.Walks.{first_on_way}
+use Rattle.exh_direct.specs.OnWayLemmas.{first_on_way}
 
 -- ---- prefixes that differ
 

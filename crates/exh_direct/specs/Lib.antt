@@ -2,5 +2,9 @@ pub mod KnownBlocks
 pub mod DirectFault
 pub mod Way
 pub mod TableSearch
+pub mod OnWayLemmas
+pub mod OnceLemmas
+pub mod StandingBlocks
 pub mod DirectAnswer
 pub mod DirectLaws
+pub mod BlockFaultLemmas

@@ -47,8 +47,8 @@ impl DirectFault {
         }
     }
 
-    // The fault of a block at a place whose image isn't what belongs there.
-    pub(crate) fn at_place(place: u32, fault: ImageFault) -> DirectFault
+    /// The fault of a block at a place whose image isn't what belongs there.
+    pub fn at_place(place: u32, fault: ImageFault) -> DirectFault
         ensures { result ≡ fault_at place fault }
     {
         match fault {

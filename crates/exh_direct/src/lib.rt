@@ -5,6 +5,7 @@
 pub use blocks::Blocks;
 pub use direct_fault::DirectFault;
 pub use finding::find;
+pub use reading::{read_block, read_page};
 
 mod blocks;
 mod direct_fault;

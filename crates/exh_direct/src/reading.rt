@@ -70,8 +70,10 @@ pub(crate) fn read_entries<B: Blocks>(
     }
 }
 
-/// The page at a place in a version, under a keyer.
-pub(crate) fn read_page<B: Blocks>(
+/// The page at a place in a version, under a keyer, of so many whole blocks. It takes memory for the page's records.
+///
+/// `File`: the block ends early or fails a test of a page. `Read`: it couldn't be read. `Memory`: a growth was refused.
+pub fn read_page<B: Blocks>(
     alloc: Global,
     blocks: &mut B,
     version: Version,
@@ -94,8 +96,10 @@ pub(crate) fn read_page<B: Blocks>(
     }
 }
 
-// Reads the block at a place, of so many blocks.
-fn read_block<B: Blocks>(
+/// Reads the block at a place, of so many whole blocks. It takes no memory.
+///
+/// `File`: the block ends early. `Read`: it couldn't be read.
+pub fn read_block<B: Blocks>(
     blocks: &mut B,
     count: u64,
     place: u32,

@@ -21,8 +21,8 @@ use Rattle.exh_format.specs.FileTests.{PageFails}
 use Rattle.exh_direct.specs.declared.direct_fault.DirectFault.TheVariants.{File}
 use Rattle.exh_direct.specs.KnownBlocks.{MayRead}
 use Rattle.exh_direct.specs.Way.{lead_of}
-use Rattle.exh_direct.proofs.BlockFaults.{cut_fails, cut_off}
-use Rattle.exh_direct.proofs.Once.{distinct_more, none_twice, noted_is}
+use Rattle.exh_direct.specs.BlockFaultLemmas.{cut_fails, cut_off}
+use Rattle.exh_direct.specs.OnceLemmas.{distinct_more, none_twice, noted_is}
 use Rattle.exh_format.specs.HeaderLemmas.{few_wards}
 use Rattle.exh_direct.proofs.Tables.{few_in_ward}
 use Rattle.exh_direct.proofs.Ways.{err_is, page_fails, page_in, place_there, reads_more, way_more}

@@ -12,7 +12,7 @@ use Rattle.exh_direct.specs.declared.table_block.TableBlock.{TableBlock}
 use Rattle.exh_direct.specs.DirectAnswer.{FailsInTable, NamesPage}
 use Rattle.exh_direct.specs.TableSearch.{FailsNext, HasComeTo, IsOnWay, ReadsOn, TABLE_READS, TellsRight, WalkEnds, places_in, right_told}
 use Rattle.exh_direct.proofs.Searches.{come_more, fails_later, fails_within, no_blocks, no_more, read_more, read_within}
-use Rattle.exh_direct.proofs.Walks.{first_on_way, step_on_way}
+use Rattle.exh_direct.specs.OnWayLemmas.{first_on_way, step_on_way}
 use Rattle.exh_direct.proofs.Ways.{err_is}
 use Rattle.exh_direct.proofs.named.named_page.Goals as goal
 

@@ -2,7 +2,7 @@ use Rattle.std.proofs.Common.{ℕ, List, subst}
 use Rattle.exh_prefix.specs.declared.version.Version.{Version}
 use Rattle.exh_format.specs.FileVersion.{file_version, format_of}
 use Rattle.exh_format.specs.FileTests.{HeaderFails}
-use Rattle.exh_direct.proofs.BlockFaults.{block_fails}
+use Rattle.exh_direct.specs.BlockFaultLemmas.{block_fails}
 use Rattle.exh_direct.proofs.reading.read_header.Goals as goal
 
 pub returns-in-Err-clause-err : goal.returns-in-Err-clause-err

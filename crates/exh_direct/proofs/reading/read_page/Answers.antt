@@ -4,7 +4,7 @@ use Rattle.exh_prefix.specs.Layout.{layout}
 use Rattle.exh_format.specs.declared.file_fault.FileFault.TheVariants.{Block}
 use Rattle.exh_format.specs.FileTests.{PageFails}
 use Rattle.exh_direct.specs.KnownBlocks.{BlockFails}
-use Rattle.exh_direct.proofs.BlockFaults.{block_fails, image_fails}
+use Rattle.exh_direct.specs.BlockFaultLemmas.{block_fails, image_fails}
 use Rattle.exh_direct.proofs.reading.read_page.Goals as goal
 
 pub returns-in-Err-clause-err : goal.returns-in-Err-clause-err

@@ -5,11 +5,12 @@ use Rattle.exh_codec.specs.declared.image_fault.ImageFault.{ImageFault}
 use Rattle.exh_codec.specs.declared.image_fault.ImageFault.TheVariants as images
 use Rattle.exh_format.specs.declared.file_fault.FileFault.{FileFault}
 use Rattle.exh_format.specs.declared.file_fault.FileFault.TheVariants.{Block}
-use Rattle.exh_format.specs.FileTests.{bytes_from}
+use Rattle.exh_format.specs.FileTests.{IsWhole, block_at, bytes_from}
 use Rattle.exh_direct.specs.declared.direct_fault.DirectFault.{DirectFault}
 use Rattle.exh_direct.specs.declared.direct_fault.DirectFault.TheVariants.{File, Astray, Read, Memory}
 use Rattle.exh_direct.specs.DirectFault.{fault_at}
 use Rattle.exh_direct.specs.KnownBlocks.{BlockFails, IsBlockAt, IsCount, IsCutOff}
+use Rattle.exh_direct.specs.DirectLaws.{IsOtherFault}
 
 -- behind the last whole block
 pub cut_off : (known : Option (List ℕ)) (count place : ℕ) → IsCount known count → count ≤ place → IfSome known (λ bytes. length (bytes_from place bytes) < 4096)
@@ -38,3 +39,13 @@ image_fails Fails known place images.Length fails = fails (λ same. cc)
 image_fails Fails known place images.Padding fails = fails (λ same. cc)
 image_fails Fails known place images.Prefix fails = fails (λ same. cc)
 image_fails Fails known place images.Order fails = fails (λ same. cc)
+
+-- ---- no fault where all tests are passed
+
+-- a whole block that doesn't fail has no fault of the file
+pub no_fault : (Fails : List ℕ → FileFault → Type 0) (bytes : List ℕ) (place : ℕ) (fault : DirectFault) → IsWhole place bytes → ((file : FileFault) → Fails (block_at place bytes) file → ⊥) → BlockFails Fails (Some bytes) place fault → IsOtherFault fault
+no_fault Fails bytes place (File file) whole none (inl cut) = absurd (omega (arith, whole, cut.0))
+no_fault Fails bytes place (File file) whole none (inr fails) = none file fails.1
+no_fault Fails bytes place Astray whole none fails = fails
+no_fault Fails bytes place Read whole none fails = tt
+no_fault Fails bytes place Memory whole none fails = tt

@@ -15,10 +15,10 @@ use Rattle.std.proofs.lemmas.Map.Keys.{IsDistinct-push}
 pub distinct_more : (numbers : List ℕ) (number : ℕ) → IsDistinct nat_eq numbers → list_any (nat_eq number) numbers ≡ false → IsDistinct nat_eq (numbers ++ number ∷ [])
 distinct_more numbers number once other = IsDistinct-push nat_eq_equiv numbers number once other
 
-apart_by : (n m : ℕ) → (n ≡ m → ⊥) → nat_eq n m ≡ false
+pub apart_by : (n m : ℕ) → (n ≡ m → ⊥) → nat_eq n m ≡ false
 apart_by n m apart = grind (arith, nat_tests)
 
-differ : (n m : ℕ) → nat_eq n m ≡ false → n ≡ m → ⊥
+pub differ : (n m : ℕ) → nat_eq n m ≡ false → n ≡ m → ⊥
 differ n m apart same = false≢true (sym apart ∙ (grind (arith, nat_tests)))
 
 pub none_twice : IsDistinct nat_eq []

@@ -1,0 +1,4 @@
+pub mod WalkBlocks
+pub mod CellWalk
+pub mod PlacedAnswer
+pub mod PlacedLaws
