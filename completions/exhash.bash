@@ -4,7 +4,7 @@ _exhash() {
     local word=${COMP_WORDS[COMP_CWORD]} last=${COMP_WORDS[COMP_CWORD - 1]} options=--help
     COMPREPLY=()
     if ((COMP_CWORD == 1)); then
-        mapfile -t COMPREPLY < <(compgen -W 'serve check dump load get put del swap pairs storm help --help --version' -- "$word")
+        mapfile -t COMPREPLY < <(compgen -W 'serve check dump load get put del swap pairs convert storm help --help --version' -- "$word")
         return
     fi
     case ${COMP_WORDS[1]} in
@@ -21,11 +21,18 @@ _exhash() {
                     ;;
             esac
             ;;
+        convert)
+            options='--version --help'
+            if [[ $last == --version ]]; then
+                mapfile -t COMPREPLY < <(compgen -W '2 3' -- "$word")
+                return
+            fi
+            ;;
         load) options='--long --into --help' ;;
         # Keys and values are no paths.
         get | put | del | swap) ((COMP_CWORD == 2)) || return ;;
         help)
-            mapfile -t COMPREPLY < <(compgen -W 'serve check dump load get put del swap pairs storm' -- "$word")
+            mapfile -t COMPREPLY < <(compgen -W 'serve check dump load get put del swap pairs convert storm' -- "$word")
             return
             ;;
         *) return ;;

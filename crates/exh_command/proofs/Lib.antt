@@ -1,4 +1,5 @@
 pub mod WordLemmas
+pub mod PlaceLemmas
 pub mod OptionLemmas
 pub mod OptionFlags
 pub mod SetFlags

@@ -1,23 +1,24 @@
--- Which words a command takes that has options with a value, flags, and perhaps a path, and what it then holds.
-use Rattle.std.proofs.Common.{◌≡◌, ◌∙◌, ℕ, Bool, true, false, List, [], ◌∷◌, ◌++◌, Option, Some, None, refl, sym, ap, ap₂, subst, codes, cond, inl, inr, append-nil}
-use Rattle.std.specs.Prelude.{◌⊎◌, ◌||◌, ◌&&◌, not, find, fold, map, option_and_then, option_map, slice_get, IsSome}
+-- Which words a command takes that has options with a value, flags, and places, and what it then holds.
+use Rattle.std.proofs.Common.{◌≡◌, ◌∙◌, ℕ, ◌+◌, Bool, true, false, List, [], ◌∷◌, ◌++◌, Option, Some, None, refl, sym, ap, ap₂, subst, codes, cond, inl, inr, append-nil, is_some}
+use Rattle.std.specs.Prelude.{◌⊎◌, ◌||◌, ◌&&◌, find, fold, map, min, option_and_then, option_map, slice_get, IsSome}
 use Rattle.std.specs.List.{list_any}
 use Rattle.std.specs.Option.{option_map_or}
-use Rattle.std.proofs.lemmas.Bool.{and_parts, false≢true}
+use Rattle.std.proofs.lemmas.Bool.{false≢true}
 use Rattle.std.specs.Str.{bytes_eq}
 use Rattle.std.proofs.lemmas.Slice.Eq.{bytes_eq-Decides}
 use Rattle.clap.specs.Words.{Kinds, Row, Rule, Shape, Text, first_of}
 use Rattle.clap.specs.Kinds.{or_else}
-use Rattle.clap.specs.Lexer.{long_of}
+use Rattle.clap.specs.Lexer.{long_of, usize_max}
 use Rattle.clap.specs.Simple.{filled, new_shape, with_index}
 use Rattle.clap.specs.Walk.{Held, Waiting, Walk, after_step, long_or_other, arg_by_id, arg_by_index, arg_by_long, arg_by_short, at_row, finished, has_row, idle, is_pending, more_values, next_position, nothing_held, option, positional_held, pushed, reading_by, settled, to_positional, used, value, walk_from, walked, with_default, without}
 use Rattle.clap.specs.Faults.{check_fault, defaults_fault, positional_fault, settle_fault, step_fault, stray_fault, turn_fault, use_fault, walk_fault}
 use Rattle.clap.specs.declared.parser.matches.ValueSource.TheVariants.{CommandLine}
 use Rattle.clap.proofs.WalkLemmas.{find-map, list_any-map}
-use Rattle.exh_command.specs.Parser.{flag_rule, option_rule, path_rule}
+use Rattle.exh_command.specs.Parser.{flag_rule, option_rule, word_rule}
 use Rattle.clap.proofs.OnLiterals.{clap_on_literals}
-use Rattle.exh_command.specs.Words.{uses_taken, Between, Ended, Reading, Use, Wanting, Wrong, after_option, after_path, after_word, ends_options, flag_set, flagged_by, gives_path, is_named, is_option, is_use_of, path_name, used_by, uses_read, option_given, wants_path, whole, with_use}
-use Rattle.exh_command.proofs.WordLemmas.{Fails, IsAsking, IsFlagged, IsValue, or_nothing, by_bundle_fails, by_long, by_long_fails, first_fails, flagged, is_end, is_name, is_plain_word, is_value, long_fails, second_fails}
+use Rattle.exh_command.specs.Words.{uses_taken, Between, Ended, Reading, Use, Wanting, Wrong, after_option, after_place, after_word, ends_options, flag_set, flagged_by, gives, is_named, is_option, is_use_of, next_place, path_name, placed_at, used_by, uses_read, option_given, whole, whole_at, with_use}
+use Rattle.exh_command.proofs.PlaceLemmas.{IsOfNone, are_distinct, at_start, false-or, in_order, next_found, next_taken, options_apart, order_kept, position_kept, position_of}
+use Rattle.exh_command.proofs.WordLemmas.{Fails, IsAsking, IsFlagged, IsValue, or_nothing, by_bundle_fails, by_long, by_long_fails, first_fails, flagged, is_end, is_plain_word, is_value, long_fails, second_fails}
 
 -- ---- an option, as it is when its command is built, and what is held of its use
 
@@ -43,10 +44,6 @@ first_of-rows_of_uses name uses =
     ap (option_and_then (λ (r : Row). slice_get r.values 0)) (sym (find-map (λ (r : Row). bytes_eq r.id name) row_of_use uses)) ∙ first_of_found (find (is_use_of name) uses)
 
 -- ---- rows without a name
-
-false-or : (a b : Bool) → (a || b) ≡ false → (a ≡ false) × (b ≡ false)
-false-or true b none = cc
-false-or false b none = (refl, none)
 
 at_row-unused : (name : Text) (change : Row → List Row) (missing : List Row) (uses : List Use) → list_any (is_use_of name) uses ≡ false → at_row name change missing (rows_of_uses uses) ≡ rows_of_uses uses ++ missing
 at_row-unused name change missing [] unused = refl
@@ -93,39 +90,22 @@ module _ (name : Text) (uses : List Use) where
 bare_fails : (name : Text) (rows : List Row) → Fails (use_fault false (option_built name) [] rows)
 bare_fails name rows = tt
 
--- ---- the path among uses
+-- ---- a word at a place, among uses
 
--- as it is when its command is built; of it the same is held as of an option
+-- the argument of a place, as it is when its command is built; of it the same is held as of an option
+abbrev pub place_built : ℕ → Text → Rule
+place_built i place = with_index i (filled (word_rule place))
+
 abbrev pub path_built : Rule
-path_built = with_index 1 (filled path_rule)
-
-pub or-false : (b : Bool) → (b || false) ≡ b
-or-false true = refl
-or-false false = refl
+path_built = place_built 1 path_name
 
 and-false : (b : Bool) → (b && false) ≡ false
 and-false true = refl
 and-false false = refl
 
-not-true : (b : Bool) → not b ≡ true → b ≡ false
-not-true true e = cc
-not-true false e = refl
-
-one_first : (first all others last : Bool) → all ≡ (others || last) → (first || all) ≡ ((first || others) || last)
-one_first true all others last same = refl
-one_first false all others last same = same
-
-has_more : (uses : List Use) (one : Use) → gives_path (uses ++ one ∷ []) ≡ (gives_path uses || is_use_of path_name one)
-has_more [] one = or-false (is_use_of path_name one)
-has_more (first ∷ uses) one = one_first (is_use_of path_name first) _ (gives_path uses) (is_use_of path_name one) (has_more uses one)
-
 some_none : (long : Option (Text × Option Text)) → long ≡ None → IsSome long → ⊥
 some_none None none some = cc
 some_none (Some p) none some = cc
-
--- the place of the next word that is no option
-abbrev place_of : List Use → ℕ
-place_of uses = cond (gives_path uses) 2 1
 
 -- ---- a command with options
 
@@ -138,23 +118,29 @@ abbrev pub FailsWhere : Bool → Kinds → Type 0
 FailsWhere true kinds = Fails kinds
 FailsWhere false kinds = kinds ≡ []
 
--- its arguments are the options and the flags of these names, and flags that ask for help, and a path where it takes one
-pub record IsOptionLeaf (takes : Bool) (command : Text) (rules : List Rule) (names flags : List Text) : Type 0 where
+-- its arguments are the options and the flags of these names, and flags that ask for help, and those of the places
+pub record IsOptionLeaf (places : List Text) (command : Text) (rules : List Rule) (names flags : List Text) : Type 0 where
   pub by_long_name : (name : Text) → is_named names name ≡ true → arg_by_long rules name ≡ Some (option_built name)
   pub by_id : (name : Text) → is_named names name ≡ true → arg_by_id rules name ≡ Some (option_built name)
   pub by_long_flag : (name : Text) → is_named names name ≡ false → is_named flags name ≡ true → arg_by_long rules name ≡ Some (flag_built name)
   pub asks : (name : Text) → is_named names name ≡ false → is_named flags name ≡ false → IsAsking (arg_by_long rules name)
   pub asks_short : (c : ℕ) → IsAsking (arg_by_short rules c)
-  pub path_by_id : takes ≡ true → arg_by_id rules path_name ≡ Some path_built
-  -- the first place is the path's, and there is no second
-  pub placed : (used : Bool) → arg_by_index rules (cond used 2 1) ≡ cond (takes && not used) (Some path_built) None
-  pub no_option : is_named names path_name ≡ false
-  pub no_flag : is_named flags path_name ≡ false
-  pub ends : (uses : List Use) → FailsWhere (wants_path takes uses) (or_else (defaults_fault (rows_of_uses uses) rules) (check_fault (leaf_of command rules) (fold with_default (rows_of_uses uses) rules) false))
+  pub place_by_id : (place : Text) → is_named places place ≡ true → (i : ℕ) × (arg_by_id rules place ≡ Some (place_built i place))
+  -- the next place has the next position, and behind the last there is none
+  pub placed : (uses : List Use) → arg_by_index rules (position_of places uses) ≡ option_map (place_built (position_of places uses)) (next_place places uses)
+  pub moves : (uses : List Use) → min (position_of places uses + 1) usize_max ≡ 1 + position_of places uses
+  pub distinct : are_distinct places ≡ true
+  pub no_option : list_any (is_named names) places ≡ false
+  pub no_flag : list_any (is_named flags) places ≡ false
+  pub ends : (uses : List Use) → FailsWhere (is_some (next_place places uses)) (or_else (defaults_fault (rows_of_uses uses) rules) (check_fault (leaf_of command rules) (fold with_default (rows_of_uses uses) rules) false))
 
-module _ (takes : Bool) (command : Text) (rules : List Rule) (names flags : List Text) (is : IsOptionLeaf takes command rules names flags) where
+module _ (places : List Text) (command : Text) (rules : List Rule) (names flags : List Text) (is : IsOptionLeaf places command rules names flags) where
   abbrev own : Shape
   own = leaf_of command rules
+
+  -- the position of the next word that is no option
+  abbrev place_of : List Use → ℕ
+  place_of uses = position_of places uses
 
   abbrev holds : List Row → Option (Text × List Text) → Held
   holds rows pending = record { rows = rows; pending = pending; skip = 0 }
@@ -167,10 +153,11 @@ module _ (takes : Bool) (command : Text) (rules : List Rule) (names flags : List
 
   -- ---- where a walk stands, by how far the words were read
 
-  -- what it holds passes, and comes to these uses
+  -- what it holds passes, and comes to these uses, whose places are the first ones
   pub record Stands (held : Held) (uses : List Use) : Type 0 where
     settles : settle_fault rules false held ≡ []
     rows_are : (settled rules held).rows ≡ rows_of_uses uses
+    ordered : in_order places uses ≡ true
 
   abbrev standing : ℕ → Held → Walk
   standing position held = record (walk_from held) { position = position }
@@ -204,7 +191,7 @@ module _ (takes : Bool) (command : Text) (rules : List Rule) (names flags : List
 
   abbrev Follows : Walk → Reading → Type 0
   Follows w (Between uses) = StandsBetween w uses
-  Follows w (Wanting name uses) = (w ≡ wanting name (place_of uses) (rows_of_uses uses)) × (is_named names name ≡ true)
+  Follows w (Wanting name uses) = (w ≡ wanting name (place_of uses) (rows_of_uses uses)) × (is_named names name ≡ true) × (in_order places uses ≡ true)
   Follows w (Ended uses) = StandsBehind w uses
   Follows w Wrong = IsLost w
 
@@ -213,83 +200,83 @@ module _ (takes : Bool) (command : Text) (rules : List Rule) (names flags : List
   Steps w after word = ((turn w word ≡ []) × Follows (next_walk w word) after) ⊎ ((after ≡ Wrong) × Fails (turn w word))
 
   abbrev after : Reading → Text → Reading
-  after = after_word takes names flags
+  after = after_word places names flags
 
-  -- ---- a word at the place of the path
+  -- ---- a word at a place
 
   abbrev step_by : Held → Option Rule → Kinds
   step_by held found = option_map_or (λ a. positional_fault rules false a held) found (stray_fault own)
 
-  path_fault : (held : Held) → positional_fault rules false path_built held ≡ settle_fault rules false held
-  path_fault held = ap (λ b. cond b [] (settle_fault rules false held)) (and-false (is_pending path_built held.pending))
+  place_fault : (i : ℕ) (place : Text) (held : Held) → positional_fault rules false (place_built i place) held ≡ settle_fault rules false held
+  place_fault i place held = ap (λ b. cond b [] (settle_fault rules false held)) (and-false (is_pending (place_built i place) held.pending))
 
   -- where what is held doesn't pass, it fails
-  strays_at : (held : Held) → Fails (settle_fault rules false held) → (used : Bool) → Fails (step_fault own (cond used 2 1) held value)
-  strays_at held lost used = subst (λ found. Fails (step_by held found)) (sym (is.placed used)) (go (takes && not used))
+  strays_at : (held : Held) → Fails (settle_fault rules false held) → (uses : List Use) → Fails (step_fault own (place_of uses) held value)
+  strays_at held lost uses = subst (λ found. Fails (step_by held found)) (sym (is.placed uses)) (go (next_place places uses))
     where
-      go : (wants : Bool) → Fails (step_by held (cond wants (Some path_built) None))
-      go true = subst Fails (sym (path_fault held)) lost
-      go false = tt
+      go : (next : Option Text) → Fails (step_by held (option_map (place_built (place_of uses)) next))
+      go (Some place) = subst Fails (sym (place_fault (place_of uses) place held)) lost
+      go None = tt
 
   module _ (uses : List Use) where
     -- it is one too many
-    too_many : (held : Held) → wants_path takes uses ≡ false → Fails (step_fault own (place_of uses) held value)
-    too_many held none = subst (λ found. Fails (step_by held found)) (sym (is.placed (gives_path uses) ∙ ap (λ wants. cond wants (Some path_built) None) none)) tt
+    too_many : (held : Held) → next_place places uses ≡ None → Fails (step_fault own (place_of uses) held value)
+    too_many held none = subst (λ found. Fails (step_by held found)) (sym (is.placed uses ∙ ap (option_map (place_built (place_of uses))) none)) tt
 
-    module _ (wants : wants_path takes uses ≡ true) where
-      is_placed : arg_by_index rules (place_of uses) ≡ Some path_built
-      is_placed = is.placed (gives_path uses) ∙ ap (λ wants. cond wants (Some path_built) None) wants
+    module _ (place : Text) (next : next_place places uses ≡ Some place) where
+      is_placed : arg_by_index rules (place_of uses) ≡ Some (place_built (place_of uses) place)
+      is_placed = is.placed uses ∙ ap (option_map (place_built (place_of uses))) next
 
-      takes_it : takes ≡ true
-      takes_it = (and_parts takes (not (gives_path uses)) wants).0
-
-      unused : gives_path uses ≡ false
-      unused = not-true (gives_path uses) (and_parts takes (not (gives_path uses)) wants).1
+      found : (is_named places place ≡ true) × (gives uses place ≡ false)
+      found = next_found places uses place next
 
       module _ (held : Held) (word : Text) (stands : Stands held uses) where
-        abbrev path_uses : List Use
-        path_uses = more path_name word uses
+        abbrev placed_uses : List Use
+        placed_uses = more place word uses
 
-        abbrev path_held : Held
-        path_held = record held { rows = rows_of_uses uses; pending = Some (path_name, word ∷ []) }
+        abbrev placed_held : Held
+        placed_held = record held { rows = rows_of_uses uses; pending = Some (place, word ∷ []) }
 
-        path_passes : step_fault own (place_of uses) held value ≡ []
-        path_passes = ap (step_by held) is_placed ∙ path_fault held ∙ stands.settles
+        place_passes : step_fault own (place_of uses) held value ≡ []
+        place_passes = ap (step_by held) is_placed ∙ place_fault (place_of uses) place held ∙ stands.settles
 
-        held_is : positional_held rules path_built word held ≡ path_held
+        held_is : positional_held rules (place_built (place_of uses) place) word held ≡ placed_held
         held_is =
-            ap (λ b. pushed path_name word (cond b held (settled rules held))) (and-false (is_pending path_built held.pending))
-            ∙ ap (λ rows. record held { rows = rows; pending = Some (path_name, word ∷ []) }) stands.rows_are
+            ap (λ b. pushed place word (cond b held (settled rules held))) (and-false (is_pending (place_built (place_of uses) place) held.pending))
+            ∙ ap (λ rows. record held { rows = rows; pending = Some (place, word ∷ []) }) stands.rows_are
 
-        -- it is the path's
-        path_walk : (waiting : Waiting) (trails : Bool) → to_positional rules (arg_by_index rules (place_of uses)) word (record (walk_from held) { waiting = waiting; position = place_of uses; is_trailing = trails }) held
-            ≡ record { held = path_held; waiting = idle; position = place_of path_uses; is_trailing = trails || false; stopped = None }
-        path_walk waiting trails =
+        taken : (in_order places placed_uses ≡ true) × (place_of placed_uses ≡ 1 + place_of uses)
+        taken = next_taken places uses place word is.distinct stands.ordered next
+
+        -- it has the place
+        place_walk : (waiting : Waiting) (trails : Bool) → to_positional rules (arg_by_index rules (place_of uses)) word (record (walk_from held) { waiting = waiting; position = place_of uses; is_trailing = trails }) held
+            ≡ record { held = placed_held; waiting = idle; position = place_of placed_uses; is_trailing = trails || false; stopped = None }
+        place_walk waiting trails =
             let w : Walk = record (walk_from held) { waiting = waiting; position = place_of uses; is_trailing = trails } in
-            let next : next_position path_built (place_of uses) ≡ 2 = ap (λ used. next_position path_built (cond used 2 1)) unused in
-            let last : place_of path_uses ≡ 2 = ap (λ b. cond b 2 1) (has_more uses (record { name = path_name; value = word }) ∙ ap (λ b. b || true) unused) in
+            let further : next_position (place_built (place_of uses) place) (place_of uses) ≡ 1 + place_of uses = is.moves uses in
             ap (λ found. to_positional rules found word w held) is_placed
-            ∙ ap₂ (λ (held : Held) (position : ℕ). let next : Walk = record { held = held; waiting = idle; position = position; is_trailing = trails || false; stopped = None } in next) held_is (next ∙ sym last)
+            ∙ ap₂ (λ (held : Held) (position : ℕ). let next : Walk = record { held = held; waiting = idle; position = position; is_trailing = trails || false; stopped = None } in next) held_is (further ∙ sym taken.1)
 
-        path_stands : Stands path_held path_uses
-        path_stands = record {
-          settles = rw (is.path_by_id takes_it) (use_passes path_name word uses unused);
-          rows_are = rw (is.path_by_id takes_it) (used_more path_name word uses unused);
-        }
+        place_stands : Stands placed_held placed_uses
+        place_stands =
+            let by_id = is.place_by_id place found.0 in record {
+              settles = rw by_id.1 (use_passes place word uses found.1);
+              rows_are = rw by_id.1 (used_more place word uses found.1);
+              ordered = taken.0;
+            }
 
   -- ---- behind `--`
 
-  at_behind : (waiting : Waiting) (held : Held) (uses : List Use) (word : Text) → Stands held uses → (wants : Bool) → wants_path takes uses ≡ wants
-      → Steps (trailing' waiting (place_of uses) held) (cond wants (Ended (more path_name word uses)) Wrong) word
+  at_behind : (waiting : Waiting) (held : Held) (uses : List Use) (word : Text) → Stands held uses → (next : Option Text) → next_place places uses ≡ next → Steps (trailing' waiting (place_of uses) held) (placed_at Ended word uses next) word
   unfolding walked
-  at_behind waiting held uses word stands true e = inl (
-    path_passes uses e held word stands,
-    record { waiting = idle; held = path_held uses e held word stands; walk_is = path_walk uses e held word stands waiting true; stands = path_stands uses e held word stands },
+  at_behind waiting held uses word stands (Some place) e = inl (
+    place_passes uses place e held word stands,
+    record { waiting = idle; held = placed_held uses place e held word stands; walk_is = place_walk uses place e held word stands waiting true; stands = place_stands uses place e held word stands },
   )
-  at_behind waiting held uses word stands false e = inr (refl, too_many uses held e)
+  at_behind waiting held uses word stands None e = inr (refl, too_many uses held e)
 
   step_behind : (w : Walk) (uses : List Use) → StandsBehind w uses → (word : Text) → Steps w (after (Ended uses) word) word
-  step_behind w uses s word = subst (λ w. Steps w (after (Ended uses) word) word) (sym s.walk_is) (at_behind s.waiting s.held uses word s.stands (wants_path takes uses) refl)
+  step_behind w uses s word = subst (λ w. Steps w (after (Ended uses) word) word) (sym s.walk_is) (at_behind s.waiting s.held uses word s.stands (next_place places uses) refl)
 
   -- ---- between two options
 
@@ -399,19 +386,19 @@ module _ (takes : Bool) (command : Text) (rules : List Rule) (names flags : List
           rw (is.by_long_flag name other sets)
           (first_fails _ _ (second_fails (settle_fault rules false (holds rows pending)) _ (subst (λ rows. Fails (use_fault false (flag_built name) [] rows)) (sym stands.rows_are) (set_again_fails name uses again))))
 
-  -- an option or a flag isn't the path
-  is_apart : (all : List Text) (name : Text) → is_named all path_name ≡ false → is_named all name ≡ true → bytes_eq name path_name ≡ false
-  is_apart all name no_path named = go (bytes_eq name path_name) refl
-    where
-      go : (same : Bool) → bytes_eq name path_name ≡ same → bytes_eq name path_name ≡ false
-      go true e = absurd (let never : true ≡ false = sym named ∙ ap (is_named all) (is_name name path_name e) ∙ no_path in cc)
-      go false e = e
+  -- an option or a flag has no place
+  module _ (all : List Text) (none : list_any (is_named all) places ≡ false) (name value' : Text) (named : is_named all name ≡ true) (uses : List Use) where
+    abbrev one_more : Use
+    one_more = record { name = name; value = value' }
 
-  place_after : (name value' : Text) (uses : List Use) → bytes_eq name path_name ≡ false → place_of (more name value' uses) ≡ place_of uses
-  place_after name value' uses apart = ap (λ b. cond b 2 1) (has_more uses (record { name = name; value = value' }) ∙ ap (λ b. gives_path uses || b) apart ∙ or-false (gives_path uses))
+    is_apart : IsOfNone places one_more
+    is_apart = options_apart places all name none named
 
-  place_kept : (name value' : Text) (uses : List Use) → is_named names name ≡ true → place_of (more name value' uses) ≡ place_of uses
-  place_kept name value' uses named = place_after name value' uses (is_apart names name is.no_option named)
+    place_kept : place_of (more name value' uses) ≡ place_of uses
+    place_kept = position_kept places uses one_more is_apart
+
+    still_ordered : in_order places uses ≡ true → in_order places (more name value' uses) ≡ true
+    still_ordered ordered = order_kept places uses one_more is_apart ∙ ordered
 
   step_lost : (w : Walk) → IsLost w → (word : Text) → Steps w Wrong word
   step_lost w l word = go l.place
@@ -451,15 +438,15 @@ module _ (takes : Bool) (command : Text) (rules : List Rule) (names flags : List
           rows = rows_of_uses (more name value' uses);
           pending = None;
           walk_is = by_walk _ _ same (valued_walk rows pending (place_of uses) word uses stands name named value' e)
-              ∙ ap (λ position. standing position (holds (rows_of_uses (more name value' uses)) None)) (sym (place_kept name value' uses named));
-          stands = record { settles = refl; rows_are = refl };
+              ∙ ap (λ position. standing position (holds (rows_of_uses (more name value' uses)) None)) (sym (place_kept names is.no_option name value' named uses));
+          stands = record { settles = refl; rows_are = refl; ordered = still_ordered names is.no_option name value' named uses stands.ordered };
         },
       )
 
       at_value : (name : Text) (v : Option Text) → long_of word ≡ Some (name, v) → is_named names name ≡ true → Steps here (used_by name v uses) word
       at_value name None same named = inl (
         by_none _ same (option_kinds rows pending (place_of uses) word uses stands name named),
-        (by_walk _ _ same (option_walk rows pending (place_of uses) word uses stands name named), named),
+        (by_walk _ _ same (option_walk rows pending (place_of uses) word uses stands name named), named, stands.ordered),
       )
       at_value name (Some value') same named = at_use name value' same named (list_any (is_use_of name) uses) refl
 
@@ -473,8 +460,8 @@ module _ (takes : Bool) (command : Text) (rules : List Rule) (names flags : List
           rows = rows_of_uses (more name flag_set uses);
           pending = None;
           walk_is = by_walk _ _ same (flag_walk rows pending (place_of uses) word uses stands name other sets e)
-              ∙ ap (λ position. standing position (holds (rows_of_uses (more name flag_set uses)) None)) (sym (place_after name flag_set uses (is_apart flags name is.no_flag sets)));
-          stands = record { settles = refl; rows_are = refl };
+              ∙ ap (λ position. standing position (holds (rows_of_uses (more name flag_set uses)) None)) (sym (place_kept flags is.no_flag name flag_set sets uses));
+          stands = record { settles = refl; rows_are = refl; ordered = still_ordered flags is.no_flag name flag_set sets uses stands.ordered };
         },
       )
 
@@ -507,23 +494,23 @@ module _ (takes : Bool) (command : Text) (rules : List Rule) (names flags : List
         unfolding walked
         walk_here = ap (λ met. after_step rules word here met.0 met.1) value_here.0
 
-        at_path : (wants : Bool) → wants_path takes uses ≡ wants → Steps here (cond wants (Between (more path_name word uses)) Wrong) word
-        at_path true e = inl (
-          turn_here ∙ path_passes uses e (holds rows pending) word stands,
+        at_place : (next : Option Text) → next_place places uses ≡ next → Steps here (placed_at Between word uses next) word
+        at_place (Some place) e = inl (
+          turn_here ∙ place_passes uses place e (holds rows pending) word stands,
           record {
             rows = rows_of_uses uses;
-            pending = Some (path_name, word ∷ []);
-            walk_is = walk_here ∙ path_walk uses e (holds rows pending) word stands idle false;
-            stands = path_stands uses e (holds rows pending) word stands;
+            pending = Some (place, word ∷ []);
+            walk_is = walk_here ∙ place_walk uses place e (holds rows pending) word stands idle false;
+            stands = place_stands uses place e (holds rows pending) word stands;
           },
         )
-        at_path false e = inr (refl, subst Fails (sym turn_here) (too_many uses (holds rows pending) e))
+        at_place None e = inr (refl, subst Fails (sym turn_here) (too_many uses (holds rows pending) e))
 
     at_between : (ends is_flag : Bool) → ends_options word ≡ ends → is_option word ≡ is_flag
-        → Steps (standing (place_of uses) (holds rows pending)) (cond ends (Ended uses) (cond is_flag (after_option names flags (long_of word) uses) (after_path takes Between word uses))) word
+        → Steps (standing (place_of uses) (holds rows pending)) (cond ends (Ended uses) (cond is_flag (after_option names flags (long_of word) uses) (after_place places Between word uses))) word
     at_between true is_flag e o = inl (end_passes rows pending (place_of uses) word e, record { waiting = idle; held = holds rows pending; walk_is = end_walked rows pending (place_of uses) word e; stands = stands })
     at_between false true e o = at_long e o (long_of word) refl
-    at_between false false e o = at_path e o (wants_path takes uses) refl
+    at_between false false e o = at_place e o (next_place places uses) refl
 
   step_between : (w : Walk) (uses : List Use) → StandsBetween w uses → (word : Text) → Steps w (after (Between uses) word) word
   step_between w uses s word = subst (λ w. Steps w (after (Between uses) word) word) (sym s.walk_is) (at_between s.rows s.pending uses s.stands word (ends_options word) (is_option word) refl refl)
@@ -533,7 +520,7 @@ module _ (takes : Bool) (command : Text) (rules : List Rule) (names flags : List
   same_name : (name : Text) → bytes_eq name name ≡ true
   same_name name = (bytes_eq-Decides name name).1 refl
 
-  module _ (name : Text) (named : is_named names name ≡ true) (uses : List Use) (word : Text) where
+  module _ (name : Text) (named : is_named names name ≡ true) (uses : List Use) (ordered : in_order places uses ≡ true) (word : Text) where
     abbrev rows_so_far : List Row
     rows_so_far = rows_of_uses uses
 
@@ -585,7 +572,7 @@ module _ (takes : Bool) (command : Text) (rules : List Rule) (names flags : List
               position = place_of uses;
               place = inl filled_walked;
               lost = lost;
-              strays = strays_at filled_held lost (gives_path uses);
+              strays = strays_at filled_held lost uses;
             },
           )
       at_filled false e = inl (
@@ -593,8 +580,12 @@ module _ (takes : Bool) (command : Text) (rules : List Rule) (names flags : List
         record {
           rows = rows_so_far;
           pending = Some (name, word ∷ []);
-          walk_is = filled_walked ∙ ap (λ position. standing position filled_held) (sym (place_kept name word uses named));
-          stands = record { settles = rw (is.by_id name named) (use_passes name word uses e); rows_are = rw (is.by_id name named) (used_more name word uses e) };
+          walk_is = filled_walked ∙ ap (λ position. standing position filled_held) (sym (place_kept names is.no_option name word named uses));
+          stands = record {
+            settles = rw (is.by_id name named) (use_passes name word uses e);
+            rows_are = rw (is.by_id name named) (used_more name word uses e);
+            ordered = still_ordered names is.no_option name word named uses ordered;
+          };
         },
       )
 
@@ -608,13 +599,13 @@ module _ (takes : Bool) (command : Text) (rules : List Rule) (names flags : List
     at_wanted : (is_flag ends : Bool) → is_option word ≡ is_flag → ends_options word ≡ ends → Steps wants (cond is_flag Wrong (with_use name word uses)) word
     at_wanted true true o e =
         let end = wanted_end e in
-        inl (end.0, record { rows = rows_so_far; pending = bare; position = place_of uses; place = inr (option name, end.1); lost = bare_lost; strays = strays_at (holds rows_so_far bare) bare_lost (gives_path uses) })
+        inl (end.0, record { rows = rows_so_far; pending = bare; position = place_of uses; place = inr (option name, end.1); lost = bare_lost; strays = strays_at (holds rows_so_far bare) bare_lost uses })
     at_wanted true false o e = inr (refl, flag_fails e (flagged word o e))
     at_wanted false true o e = absurd (ends_is_option o e)
     at_wanted false false o e = at_filled e o (list_any (is_use_of name) uses) refl
 
-  step_wanting : (w : Walk) (name : Text) (uses : List Use) → (w ≡ wanting name (place_of uses) (rows_of_uses uses)) × (is_named names name ≡ true) → (word : Text) → Steps w (after (Wanting name uses) word) word
-  step_wanting w name uses s word = subst (λ w. Steps w (after (Wanting name uses) word) word) (sym s.0) (at_wanted name s.1 uses word (is_option word) (ends_options word) refl refl)
+  step_wanting : (w : Walk) (name : Text) (uses : List Use) → (w ≡ wanting name (place_of uses) (rows_of_uses uses)) × (is_named names name ≡ true) × (in_order places uses ≡ true) → (word : Text) → Steps w (after (Wanting name uses) word) word
+  step_wanting w name uses s word = subst (λ w. Steps w (after (Wanting name uses) word) word) (sym s.0) (at_wanted name s.1 uses s.2 word (is_option word) (ends_options word) refl refl)
 
   -- ---- all words
 
@@ -641,18 +632,18 @@ module _ (takes : Bool) (command : Text) (rules : List Rule) (names flags : List
   Reads w words None = Fails (kinds_left w words)
   Reads w words (Some uses) = (kinds_left w words ≡ []) × (rows_left w words ≡ fold with_default (rows_of_uses uses) rules)
 
-  stands_end : (held : Held) (uses : List Use) → Stands held uses → FailsWhere (wants_path takes uses) (ending held)
+  stands_end : (held : Held) (uses : List Use) → Stands held uses → FailsWhere (is_some (next_place places uses)) (ending held)
   stands_end held uses s =
-      subst (λ kinds. FailsWhere (wants_path takes uses) (or_else kinds (ending_of (settled rules held).rows))) (sym s.settles)
-      (subst (λ rows. FailsWhere (wants_path takes uses) (ending_of rows)) (sym s.rows_are) (is.ends uses))
+      subst (λ kinds. FailsWhere (is_some (next_place places uses)) (or_else kinds (ending_of (settled rules held).rows))) (sym s.settles)
+      (subst (λ rows. FailsWhere (is_some (next_place places uses)) (ending_of rows)) (sym s.rows_are) (is.ends uses))
 
-  whole_end : (w : Walk) (uses : List Use) → Stands w.held uses → Reads w [] (whole takes uses)
+  whole_end : (w : Walk) (uses : List Use) → Stands w.held uses → Reads w [] (whole places uses)
   unfolding walk_fault
-  whole_end w uses s = go (wants_path takes uses) (stands_end w.held uses s)
+  whole_end w uses s = go (next_place places uses) (stands_end w.held uses s)
     where
-      go : (wants : Bool) → FailsWhere wants (ending w.held) → Reads w [] (cond wants None (Some uses))
-      go true fails = fails
-      go false none = (none, ap (λ rows. fold with_default rows rules) s.rows_are)
+      go : (next : Option Text) → FailsWhere (is_some next) (ending w.held) → Reads w [] (whole_at uses next)
+      go (Some place) fails = fails
+      go None none = (none, ap (λ rows. fold with_default rows rules) s.rows_are)
 
   lost_end : (w : Walk) → IsLost w → Fails (ending w.held)
   lost_end w l = go l.place
@@ -664,18 +655,18 @@ module _ (takes : Bool) (command : Text) (rules : List Rule) (names flags : List
       go (inl same) = subst (λ (w : Walk). Fails (ending w.held)) (sym same) ends
       go (inr (waiting, same)) = subst (λ (w : Walk). Fails (ending w.held)) (sym same) ends
 
-  at_end : (w : Walk) (reading : Reading) → Follows w reading → Reads w [] (uses_read takes reading)
+  at_end : (w : Walk) (reading : Reading) → Follows w reading → Reads w [] (uses_read places reading)
   unfolding walk_fault
-  at_end w (Between uses) s = subst (λ w. Reads w [] (whole takes uses)) (sym s.walk_is) (whole_end (standing (place_of uses) (holds s.rows s.pending)) uses s.stands)
-  at_end w (Wanting name uses) s = subst (λ w. Reads w [] None) (sym s.0) (first_fails _ _ (bare_lost name s.1 uses []))
-  at_end w (Ended uses) s = subst (λ w. Reads w [] (whole takes uses)) (sym s.walk_is) (whole_end (trailing' s.waiting (place_of uses) s.held) uses s.stands)
+  at_end w (Between uses) s = subst (λ w. Reads w [] (whole places uses)) (sym s.walk_is) (whole_end (standing (place_of uses) (holds s.rows s.pending)) uses s.stands)
+  at_end w (Wanting name uses) s = subst (λ w. Reads w [] None) (sym s.0) (first_fails _ _ (bare_lost name s.1 uses s.2 []))
+  at_end w (Ended uses) s = subst (λ w. Reads w [] (whole places uses)) (sym s.walk_is) (whole_end (trailing' s.waiting (place_of uses) s.held) uses s.stands)
   at_end w Wrong l = lost_end w l
 
-  wrong_stays : (words : List Text) → uses_read takes (fold after Wrong words) ≡ None
+  wrong_stays : (words : List Text) → uses_read places (fold after Wrong words) ≡ None
   wrong_stays [] = refl
   wrong_stays (word ∷ words) = wrong_stays words
 
-  reads_on : (words : List Text) (w : Walk) (reading : Reading) → Follows w reading → Reads w words (uses_read takes (fold after reading words))
+  reads_on : (words : List Text) (w : Walk) (reading : Reading) → Follows w reading → Reads w words (uses_read places (fold after reading words))
   unfolding walk_fault
   reads_on [] w reading s = at_end w reading s
   reads_on (word ∷ words) w reading s = go (reads_on words) (step w reading s word)
@@ -684,11 +675,18 @@ module _ (takes : Bool) (command : Text) (rules : List Rule) (names flags : List
       passed None none fails = rw none fails
       passed (Some uses) none reads = (rw none reads.0, reads.1)
 
-      go : ((w : Walk) (reading : Reading) → Follows w reading → Reads w words (uses_read takes (fold after reading words))) → Steps w (after reading word) word → Reads w (word ∷ words) (uses_read takes (fold after (after reading word) words))
-      go on (inl (none, follows)) = passed (uses_read takes (fold after (after reading word) words)) none (on (next_walk w word) (after reading word) follows)
+      go : ((w : Walk) (reading : Reading) → Follows w reading → Reads w words (uses_read places (fold after reading words))) → Steps w (after reading word) word → Reads w (word ∷ words) (uses_read places (fold after (after reading word) words))
+      go on (inl (none, follows)) = passed (uses_read places (fold after (after reading word) words)) none (on (next_walk w word) (after reading word) follows)
       go on (inr (wrong, fails)) =
-          subst (Reads w (word ∷ words)) (sym (ap (λ reading. uses_read takes (fold after reading words)) wrong ∙ wrong_stays words)) (first_fails _ _ (first_fails _ _ fails))
+          subst (Reads w (word ∷ words)) (sym (ap (λ reading. uses_read places (fold after reading words)) wrong ∙ wrong_stays words)) (first_fails _ _ (first_fails _ _ fails))
 
   -- the words behind the command
-  pub options_read : (words : List Text) → Reads (walk_from nothing_held) words (uses_taken takes names flags words)
-  options_read words = reads_on words (walk_from nothing_held) (Between []) (record { rows = []; pending = None; walk_is = refl; stands = record { settles = refl; rows_are = refl } })
+  pub options_read : (words : List Text) → Reads (walk_from nothing_held) words (uses_taken places names flags words)
+  options_read words =
+      let start = at_start places in
+      reads_on words (walk_from nothing_held) (Between []) (record {
+        rows = [];
+        pending = None;
+        walk_is = ap (λ position. standing position (holds [] None)) (sym start.1);
+        stands = record { settles = refl; rows_are = refl; ordered = start.0 };
+      })

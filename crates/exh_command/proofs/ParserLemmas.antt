@@ -19,8 +19,8 @@ use Rattle.clap.proofs.OnLiterals.{clap_on_literals}
 use Rattle.clap.proofs.WalkLemmas.{both, first_value-rows, one_text-rows, walk_stopped}
 use Rattle.clap.proofs.FaultLemmas.{stopped_fault}
 use Rattle.exh_command.specs.CommandFault.{IsFaultOf, IsWrong, TellsVersion}
-use Rattle.exh_command.specs.Words.{Use, alone, ends_options, flags_and_path, gives_path, is_option, is_use_of, only_word, option_given, path_and_key, path_and_three, path_and_two, path_name, path_named, uses_and_path, uses_named, wants_path}
-use Rattle.exh_command.specs.Job.{AskForVersion, Asked, Serve, Check, Dump, Load, Storm, Get, Put, Del, Swap, Pairs, asked_by, callers_name, calls_name, cap_name, command_of, copies_name, del_asked, deleted_by, get_asked, got_by, job_asked, job_named, into_name, keyer_name, load_asked, load_flags, loaded_by, long_name, open_name, paired_by, pairs_asked, pairs_names, put_asked, put_by, save_name, serve_asked, serve_names, served_by, storm_asked, storm_names, stormed_by, swap_asked, swapped_by, wards_name}
+use Rattle.exh_command.specs.Words.{Use, alone, ends_options, flags_and_path, gives, is_option, is_use_of, new_path_name, next_place, only_word, option_given, path_and_key, path_and_three, path_and_two, path_name, path_named, uses_and_path, uses_and_two_paths, uses_named}
+use Rattle.exh_command.specs.Job.{AskForVersion, Asked, Serve, Check, Dump, Load, Storm, Get, Put, Del, Swap, Pairs, Convert, asked_by, callers_name, calls_name, cap_name, command_of, convert_asked, convert_names, converted_by, copies_name, del_asked, deleted_by, get_asked, got_by, job_asked, job_named, into_name, keyer_name, load_asked, load_flags, loaded_by, long_name, open_name, paired_by, pairs_asked, pairs_names, put_asked, put_by, save_name, serve_asked, serve_names, served_by, storm_asked, storm_names, stormed_by, swap_asked, swapped_by, version_name, wards_name}
 use Rattle.exh_command.specs.Parser.{HasFlags, HasPairsTexts, HasTexts, HasValues, IsJobMet, Meets, ReadsJobs, key_id, new_id, old_id, pairs_texts_of, path_id, path_rule, texts_of, value_id}
 use Rattle.exh_command.proofs.TheProgram.{program, serve}
 use Rattle.exh_command.proofs.KeyWords.{key_agrees, key_flags, key_kinds, key_met}
@@ -28,7 +28,7 @@ use Rattle.exh_command.proofs.PutWords.{put_agrees, put_flags, put_kinds, put_me
 use Rattle.exh_command.proofs.SwapWords.{swap_agrees, swap_flags, swap_kinds, swap_met}
 use Rattle.exh_command.specs.declared.fault.CliFault.{CliFault}
 use Rattle.exh_command.proofs.OptionLemmas.{IsOptionLeaf, first_of-rows_of_uses, rows_of_uses}
-use Rattle.exh_command.proofs.OptionFlags.{flags_agree, flags_met, help_asking, keeps_rows, no_defaults, option_flags, option_leaf, path_flags_of, path_keeps, path_leaf_of}
+use Rattle.exh_command.proofs.OptionFlags.{both_given, flags_agree, flags_met, help_asking, keeps_rows, no_defaults, one_path, option_flags, option_leaf, path_flags_of, path_keeps, path_leaf_of, two_path_flags_of, two_paths, two_paths_keep, two_paths_leaf_of}
 use Rattle.exh_command.proofs.SetFlags.{first_text, flags_leaf_of, path_and_flags, path_value_kept, second_text, uses_set}
 use Rattle.exh_command.proofs.WordLemmas.{Agrees, Fails, IsAsking, IsValue, agreed, agrees_as, all_ask, first_fails, flags, help, is_end, is_name, is_plain_word, is_value, option_fails, or_nothing, some_is, version, word_fails}
 
@@ -50,13 +50,13 @@ path_flags = filled_from 1 (path_rule ∷ help_rule ∷ [])
 
 -- ---- the words after `serve`, and after `storm`
 
-serve_leaf : IsOptionLeaf false (codes "serve") serve_flags serve_names []
+serve_leaf : IsOptionLeaf [] (codes "serve") serve_flags serve_names []
 unfolding clap_on_literals
-serve_leaf = option_leaf (codes "serve") serve_names refl (λ rows. ap₂ or_else (no_defaults serve_names rows) refl)
+serve_leaf = option_leaf (codes "serve") serve_names (λ rows. ap₂ or_else (no_defaults serve_names rows) refl)
 
-storm_leaf : IsOptionLeaf false (codes "storm") storm_flags storm_names []
+storm_leaf : IsOptionLeaf [] (codes "storm") storm_flags storm_names []
 unfolding clap_on_literals
-storm_leaf = option_leaf (codes "storm") storm_names refl (λ rows. ap₂ or_else (no_defaults storm_names rows) refl)
+storm_leaf = option_leaf (codes "storm") storm_names (λ rows. ap₂ or_else (no_defaults storm_names rows) refl)
 
 abbrev leaf_kinds : List Text → Kinds
 leaf_kinds words = level_fault (slice_index_or (built program).subs 0 serve) [] nothing_held words false []
@@ -65,15 +65,15 @@ abbrev storm_kinds : List Text → Kinds
 storm_kinds words = level_fault (slice_index_or (built program).subs 4 serve) [] nothing_held words false []
 
 leaf_agrees : (words : List Text) → Agrees (serve_asked words) (leaf_kinds words)
-leaf_agrees words = flags_agree false (codes "serve") serve_flags serve_names [] serve_leaf served_by words
+leaf_agrees words = flags_agree [] (codes "serve") serve_flags serve_names [] serve_leaf served_by words
 
 storm_agrees : (words : List Text) → Agrees (storm_asked words) (storm_kinds words)
-storm_agrees words = flags_agree false (codes "storm") storm_flags storm_names [] storm_leaf stormed_by words
+storm_agrees words = flags_agree [] (codes "storm") storm_flags storm_names [] storm_leaf stormed_by words
 
-served_values : (uses : List Use) → wants_path false uses ≡ false → HasValues (served_by uses) (rows_of_uses uses)
+served_values : (uses : List Use) → next_place [] uses ≡ None → HasValues (served_by uses) (rows_of_uses uses)
 served_values uses whole = (first_of-rows_of_uses open_name uses, first_of-rows_of_uses save_name uses)
 
-stormed_values : (uses : List Use) → wants_path false uses ≡ false → HasValues (stormed_by uses) (rows_of_uses uses)
+stormed_values : (uses : List Use) → next_place [] uses ≡ None → HasValues (stormed_by uses) (rows_of_uses uses)
 stormed_values uses whole = record {
   callers = first_of-rows_of_uses callers_name uses;
   calls = first_of-rows_of_uses calls_name uses;
@@ -84,17 +84,17 @@ stormed_values uses whole = record {
 
 -- they meet their values
 leaf_met : (words : List Text) (asked : Asked) → serve_asked words ≡ Some asked → HasValues asked (rows_after serve_flags [] words)
-leaf_met words asked named = flags_met false (codes "serve") serve_flags serve_names [] serve_leaf served_by (λ words uses is whole. subst (HasValues (served_by uses)) (sym (keeps_rows serve_names (rows_of_uses uses))) (served_values uses whole)) words asked named
+leaf_met words asked named = flags_met [] (codes "serve") serve_flags serve_names [] serve_leaf served_by (λ words uses is whole. subst (HasValues (served_by uses)) (sym (keeps_rows serve_names (rows_of_uses uses))) (served_values uses whole)) words asked named
 
 storm_leaf_met : (words : List Text) (asked : Asked) → storm_asked words ≡ Some asked → HasValues asked (rows_after storm_flags [] words)
-storm_leaf_met words asked named = flags_met false (codes "storm") storm_flags storm_names [] storm_leaf stormed_by (λ words uses is whole. subst (HasValues (stormed_by uses)) (sym (keeps_rows storm_names (rows_of_uses uses))) (stormed_values uses whole)) words asked named
+storm_leaf_met words asked named = flags_met [] (codes "storm") storm_flags storm_names [] storm_leaf stormed_by (λ words uses is whole. subst (HasValues (stormed_by uses)) (sym (keeps_rows storm_names (rows_of_uses uses))) (stormed_values uses whole)) words asked named
 
 -- ---- the words after `pairs`
 
 abbrev pairs_flags : List Rule
 pairs_flags = path_flags_of pairs_names
 
-pairs_leaf : IsOptionLeaf true (codes "pairs") pairs_flags pairs_names []
+pairs_leaf : IsOptionLeaf one_path (codes "pairs") pairs_flags pairs_names []
 unfolding clap_on_literals
 pairs_leaf = path_leaf_of (codes "pairs") pairs_names refl
 
@@ -102,27 +102,27 @@ abbrev pairs_kinds : List Text → Kinds
 pairs_kinds words = level_fault (slice_index_or (built program).subs 9 serve) [] nothing_held words false []
 
 pairs_agree : (words : List Text) → Agrees (pairs_asked words) (pairs_kinds words)
-pairs_agree words = flags_agree true (codes "pairs") pairs_flags pairs_names [] pairs_leaf paired_by words
+pairs_agree words = flags_agree one_path (codes "pairs") pairs_flags pairs_names [] pairs_leaf paired_by words
 
-path_given_is : (uses : List Use) → is_some (option_given path_name uses) ≡ gives_path uses
-path_given_is [] = refl
-path_given_is (one ∷ uses) = go (is_use_of path_name one) (path_given_is uses)
+given_is : (place : Text) (uses : List Use) → is_some (option_given place uses) ≡ gives uses place
+given_is place [] = refl
+given_is place (one ∷ uses) = go (is_use_of place one) (given_is place uses)
   where
-    go : (b : Bool) → is_some (option_given path_name uses) ≡ gives_path uses → is_some (option_map (λ (one : Use). one.value) (cond b (Some one) (find (is_use_of path_name) uses))) ≡ (b || gives_path uses)
+    go : (b : Bool) → is_some (option_given place uses) ≡ gives uses place → is_some (option_map (λ (one : Use). one.value) (cond b (Some one) (find (is_use_of place) uses))) ≡ (b || gives uses place)
     go true others = refl
     go false others = others
 
-not-false : (b : Bool) → not b ≡ false → b ≡ true
-not-false true e = refl
-not-false false e = cc
+path_there : (given : Bool) → cond (not given) (Some path_name) None ≡ None → given ≡ true
+path_there true none = refl
+path_there false none = cc
 
 some_or : (given : Option Text) → is_some given ≡ true → given ≡ Some (unwrap_or given [])
 some_or None some = cc
 some_or (Some path) some = refl
 
-paired_values : (uses : List Use) → wants_path true uses ≡ false → HasValues (paired_by uses) (rows_of_uses uses)
+paired_values : (uses : List Use) → next_place one_path uses ≡ None → HasValues (paired_by uses) (rows_of_uses uses)
 paired_values uses whole =
-    let given = path_given_is uses ∙ not-false (gives_path uses) whole in (
+    let given = given_is path_name uses ∙ path_there (gives uses path_name) whole in (
       first_of-rows_of_uses path_name uses ∙ some_or (option_given path_name uses) given,
       record {
         cap = first_of-rows_of_uses cap_name uses;
@@ -132,14 +132,41 @@ paired_values uses whole =
     )
 
 pairs_met : (words : List Text) (asked : Asked) → pairs_asked words ≡ Some asked → HasValues asked (rows_after pairs_flags [] words)
-pairs_met words asked named = flags_met true (codes "pairs") pairs_flags pairs_names [] pairs_leaf paired_by (λ words uses is whole. subst (HasValues (paired_by uses)) (sym (path_keeps pairs_names (rows_of_uses uses))) (paired_values uses whole)) words asked named
+pairs_met words asked named = flags_met one_path (codes "pairs") pairs_flags pairs_names [] pairs_leaf paired_by (λ words uses is whole. subst (HasValues (paired_by uses)) (sym (path_keeps pairs_names (rows_of_uses uses))) (paired_values uses whole)) words asked named
+
+-- ---- the words after `convert`
+
+abbrev convert_flags : List Rule
+convert_flags = two_path_flags_of convert_names
+
+convert_leaf : IsOptionLeaf two_paths (codes "convert") convert_flags convert_names []
+unfolding clap_on_literals
+convert_leaf = two_paths_leaf_of (codes "convert") convert_names refl refl
+
+abbrev convert_kinds : List Text → Kinds
+convert_kinds words = level_fault (slice_index_or (built program).subs 10 serve) [] nothing_held words false []
+
+convert_agrees : (words : List Text) → Agrees (convert_asked words) (convert_kinds words)
+convert_agrees words = flags_agree two_paths (codes "convert") convert_flags convert_names [] convert_leaf converted_by words
+
+converted_values : (uses : List Use) → next_place two_paths uses ≡ None → HasValues (converted_by uses) (rows_of_uses uses)
+converted_values uses whole =
+    let both = both_given (gives uses path_name) (gives uses new_path_name) whole in (
+      first_of-rows_of_uses path_name uses ∙ some_or (option_given path_name uses) (given_is path_name uses ∙ both.0),
+      first_of-rows_of_uses new_path_name uses ∙ some_or (option_given new_path_name uses) (given_is new_path_name uses ∙ both.1),
+      first_of-rows_of_uses version_name uses,
+    )
+
+convert_met : (words : List Text) (asked : Asked) → convert_asked words ≡ Some asked → HasValues asked (rows_after convert_flags [] words)
+convert_met words asked named =
+    flags_met two_paths (codes "convert") convert_flags convert_names [] convert_leaf converted_by (λ words uses is whole. subst (HasValues (converted_by uses)) (sym (two_paths_keep convert_names (rows_of_uses uses))) (converted_values uses whole)) words asked named
 
 -- ---- the words after `load`
 
 abbrev load_rules : List Rule
 load_rules = path_and_flags load_flags
 
-load_leaf : IsOptionLeaf true (codes "load") load_rules [] load_flags
+load_leaf : IsOptionLeaf one_path (codes "load") load_rules [] load_flags
 unfolding clap_on_literals
 load_leaf = flags_leaf_of (codes "load") load_flags refl
 
@@ -147,20 +174,20 @@ abbrev load_kinds : List Text → Kinds
 load_kinds words = level_fault (slice_index_or (built program).subs 3 serve) [] nothing_held words false []
 
 load_agrees : (words : List Text) → Agrees (load_asked words) (load_kinds words)
-load_agrees words = flags_agree true (codes "load") load_rules [] load_flags load_leaf loaded_by words
+load_agrees words = flags_agree one_path (codes "load") load_rules [] load_flags load_leaf loaded_by words
 
-loaded_values : (words : List Text) (uses : List Use) → flags_and_path load_flags words ≡ Some uses → wants_path true uses ≡ false → HasValues (loaded_by uses) (fold with_default (rows_of_uses uses) load_rules)
+loaded_values : (words : List Text) (uses : List Use) → flags_and_path load_flags words ≡ Some uses → next_place one_path uses ≡ None → HasValues (loaded_by uses) (fold with_default (rows_of_uses uses) load_rules)
 unfolding clap_on_literals
 loaded_values words uses is whole =
     let all = uses_set load_flags refl words uses is in
-    let given = path_given_is uses ∙ not-false (gives_path uses) whole in (
+    let given = given_is path_name uses ∙ path_there (gives uses path_name) whole in (
       path_value_kept load_flags refl uses ∙ first_of-rows_of_uses path_name uses ∙ some_or (option_given path_name uses) given,
       first_text long_name into_name refl refl uses all refl refl,
       second_text long_name into_name refl refl uses all refl refl,
     )
 
 load_met : (words : List Text) (asked : Asked) → load_asked words ≡ Some asked → HasValues asked (rows_after load_rules [] words)
-load_met words asked named = flags_met true (codes "load") load_rules [] load_flags load_leaf loaded_by loaded_values words asked named
+load_met words asked named = flags_met one_path (codes "load") load_rules [] load_flags load_leaf loaded_by loaded_values words asked named
 
 -- ---- the words after a command about a path
 
@@ -360,6 +387,10 @@ pairs_leaves : (words : List Text) → top_kinds (codes "pairs" ∷ words) ≡ p
 unfolding clap_on_literals
 pairs_leaves words = stopped_is (codes "pairs") words ∙ or_nothing (pairs_kinds words)
 
+convert_leaves : (words : List Text) → top_kinds (codes "convert" ∷ words) ≡ convert_kinds words
+unfolding clap_on_literals
+convert_leaves words = stopped_is (codes "convert") words ∙ or_nothing (convert_kinds words)
+
 help_fails : (words : List Text) → Fails (top_kinds (codes "help" ∷ words))
 unfolding clap_on_literals
 help_fails words = tt
@@ -370,9 +401,9 @@ end_fails [] = tt
 end_fails (word ∷ rest) = tt
 
 -- a word that names no command
-module _ (word : Text) (no_serve : bytes_eq (codes "serve") word ≡ false) (no_check : bytes_eq (codes "check") word ≡ false) (no_dump : bytes_eq (codes "dump") word ≡ false) (no_load : bytes_eq (codes "load") word ≡ false) (no_storm : bytes_eq (codes "storm") word ≡ false) (no_get : bytes_eq (codes "get") word ≡ false) (no_put : bytes_eq (codes "put") word ≡ false) (no_del : bytes_eq (codes "del") word ≡ false) (no_swap : bytes_eq (codes "swap") word ≡ false) (no_pairs : bytes_eq (codes "pairs") word ≡ false) where
+module _ (word : Text) (no_serve : bytes_eq (codes "serve") word ≡ false) (no_check : bytes_eq (codes "check") word ≡ false) (no_dump : bytes_eq (codes "dump") word ≡ false) (no_load : bytes_eq (codes "load") word ≡ false) (no_storm : bytes_eq (codes "storm") word ≡ false) (no_get : bytes_eq (codes "get") word ≡ false) (no_put : bytes_eq (codes "put") word ≡ false) (no_del : bytes_eq (codes "del") word ≡ false) (no_swap : bytes_eq (codes "swap") word ≡ false) (no_pairs : bytes_eq (codes "pairs") word ≡ false) (no_convert : bytes_eq (codes "convert") word ≡ false) where
   unnamed : bytes_eq (codes "help") word ≡ false → subcommand_met names idle word ≡ None
-  unnamed no_help = rw (no_serve, no_check, no_dump, no_load, no_storm, no_get, no_put, no_del, no_swap, no_pairs, no_help) refl
+  unnamed no_help = rw (no_serve, no_check, no_dump, no_load, no_storm, no_get, no_put, no_del, no_swap, no_pairs, no_convert, no_help) refl
 
   other_fails : (rest : List Text) (helps ends : Bool) → bytes_eq (codes "help") word ≡ helps → ends_options word ≡ ends → Fails (top_kinds (word ∷ rest))
   unfolding clap_on_literals
@@ -381,47 +412,50 @@ module _ (word : Text) (no_serve : bytes_eq (codes "serve") word ≡ false) (no_
   other_fails rest false false no_help no_end =
       first_fails _ _ (first_fails _ _ (word_fails top flags short_asking [] None 1 word refl (all_ask flags long_asking (long_of word)) names (unnamed no_help) no_end))
 
-command_agrees : (word : Text) (rest : List Text) (serves checks dumps loads storms gets puts dels swaps pairs : Bool) → bytes_eq (codes "serve") word ≡ serves → bytes_eq (codes "check") word ≡ checks → bytes_eq (codes "dump") word ≡ dumps → bytes_eq (codes "load") word ≡ loads → bytes_eq (codes "storm") word ≡ storms → bytes_eq (codes "get") word ≡ gets → bytes_eq (codes "put") word ≡ puts → bytes_eq (codes "del") word ≡ dels → bytes_eq (codes "swap") word ≡ swaps → bytes_eq (codes "pairs") word ≡ pairs
-    → Agrees (cond serves (serve_asked rest) (cond checks (option_map Check (path_named rest)) (cond dumps (option_map Dump (path_named rest)) (cond loads (load_asked rest) (cond storms (storm_asked rest) (cond gets (get_asked rest) (cond puts (put_asked rest) (cond dels (del_asked rest) (cond swaps (swap_asked rest) (cond pairs (pairs_asked rest) None))))))))))
+command_agrees : (word : Text) (rest : List Text) (serves checks dumps loads storms gets puts dels swaps pairs converts : Bool) → bytes_eq (codes "serve") word ≡ serves → bytes_eq (codes "check") word ≡ checks → bytes_eq (codes "dump") word ≡ dumps → bytes_eq (codes "load") word ≡ loads → bytes_eq (codes "storm") word ≡ storms → bytes_eq (codes "get") word ≡ gets → bytes_eq (codes "put") word ≡ puts → bytes_eq (codes "del") word ≡ dels → bytes_eq (codes "swap") word ≡ swaps → bytes_eq (codes "pairs") word ≡ pairs → bytes_eq (codes "convert") word ≡ converts
+    → Agrees (cond serves (serve_asked rest) (cond checks (option_map Check (path_named rest)) (cond dumps (option_map Dump (path_named rest)) (cond loads (load_asked rest) (cond storms (storm_asked rest) (cond gets (get_asked rest) (cond puts (put_asked rest) (cond dels (del_asked rest) (cond swaps (swap_asked rest) (cond pairs (pairs_asked rest) (cond converts (convert_asked rest) None)))))))))))
     (top_kinds (word ∷ rest))
-command_agrees word rest true checks dumps loads storms gets puts dels swaps pairs s c d l o g p e w i =
+command_agrees word rest true checks dumps loads storms gets puts dels swaps pairs converts s c d l o g p e w i v =
     let left = subst (Agrees (serve_asked rest)) (sym (serve_leaves rest)) (leaf_agrees rest) in
     subst (λ w. Agrees (serve_asked rest) (top_kinds (w ∷ rest))) (is_name (codes "serve") word s) left
-command_agrees word rest false true dumps loads storms gets puts dels swaps pairs s c d l o g p e w i =
+command_agrees word rest false true dumps loads storms gets puts dels swaps pairs converts s c d l o g p e w i v =
     let left = subst (Agrees (option_map Check (path_named rest))) (sym (check_leaves rest)) (agrees_as Check _ _ (path_agrees rest)) in
     subst (λ w. Agrees (option_map Check (path_named rest)) (top_kinds (w ∷ rest))) (is_name (codes "check") word c) left
-command_agrees word rest false false true loads storms gets puts dels swaps pairs s c d l o g p e w i =
+command_agrees word rest false false true loads storms gets puts dels swaps pairs converts s c d l o g p e w i v =
     let left = subst (Agrees (option_map Dump (path_named rest))) (sym (dump_leaves rest)) (agrees_as Dump _ _ (path_agrees rest)) in
     subst (λ w. Agrees (option_map Dump (path_named rest)) (top_kinds (w ∷ rest))) (is_name (codes "dump") word d) left
-command_agrees word rest false false false true storms gets puts dels swaps pairs s c d l o g p e w i =
+command_agrees word rest false false false true storms gets puts dels swaps pairs converts s c d l o g p e w i v =
     let left = subst (Agrees (load_asked rest)) (sym (load_leaves rest)) (load_agrees rest) in
     subst (λ w. Agrees (load_asked rest) (top_kinds (w ∷ rest))) (is_name (codes "load") word l) left
-command_agrees word rest false false false false true gets puts dels swaps pairs s c d l o g p e w i =
+command_agrees word rest false false false false true gets puts dels swaps pairs converts s c d l o g p e w i v =
     let left = subst (Agrees (storm_asked rest)) (sym (storm_leaves rest)) (storm_agrees rest) in
     subst (λ w. Agrees (storm_asked rest) (top_kinds (w ∷ rest))) (is_name (codes "storm") word o) left
-command_agrees word rest false false false false false true puts dels swaps pairs s c d l o g p e w i =
+command_agrees word rest false false false false false true puts dels swaps pairs converts s c d l o g p e w i v =
     let left = subst (Agrees (get_asked rest)) (sym (get_leaves rest)) (agrees_as got_by _ _ (key_agrees rest)) in
     subst (λ w. Agrees (get_asked rest) (top_kinds (w ∷ rest))) (is_name (codes "get") word g) left
-command_agrees word rest false false false false false false true dels swaps pairs s c d l o g p e w i =
+command_agrees word rest false false false false false false true dels swaps pairs converts s c d l o g p e w i v =
     let left = subst (Agrees (put_asked rest)) (sym (put_leaves rest)) (agrees_as put_by _ _ (put_agrees rest)) in
     subst (λ w. Agrees (put_asked rest) (top_kinds (w ∷ rest))) (is_name (codes "put") word p) left
-command_agrees word rest false false false false false false false true swaps pairs s c d l o g p e w i =
+command_agrees word rest false false false false false false false true swaps pairs converts s c d l o g p e w i v =
     let left = subst (Agrees (del_asked rest)) (sym (del_leaves rest)) (agrees_as deleted_by _ _ (key_agrees rest)) in
     subst (λ w. Agrees (del_asked rest) (top_kinds (w ∷ rest))) (is_name (codes "del") word e) left
-command_agrees word rest false false false false false false false false true pairs s c d l o g p e w i =
+command_agrees word rest false false false false false false false false true pairs converts s c d l o g p e w i v =
     let left = subst (Agrees (swap_asked rest)) (sym (swap_leaves rest)) (agrees_as swapped_by _ _ (swap_agrees rest)) in
     subst (λ w. Agrees (swap_asked rest) (top_kinds (w ∷ rest))) (is_name (codes "swap") word w) left
-command_agrees word rest false false false false false false false false false true s c d l o g p e w i =
+command_agrees word rest false false false false false false false false false true converts s c d l o g p e w i v =
     let left = subst (Agrees (pairs_asked rest)) (sym (pairs_leaves rest)) (pairs_agree rest) in
     subst (λ w. Agrees (pairs_asked rest) (top_kinds (w ∷ rest))) (is_name (codes "pairs") word i) left
-command_agrees word rest false false false false false false false false false false s c d l o g p e w i = other_fails word s c d l o g p e w i rest (bytes_eq (codes "help") word) (ends_options word) refl refl
+command_agrees word rest false false false false false false false false false false true s c d l o g p e w i v =
+    let left = subst (Agrees (convert_asked rest)) (sym (convert_leaves rest)) (convert_agrees rest) in
+    subst (λ w. Agrees (convert_asked rest) (top_kinds (w ∷ rest))) (is_name (codes "convert") word v) left
+command_agrees word rest false false false false false false false false false false false s c d l o g p e w i v = other_fails word s c d l o g p e w i v rest (bytes_eq (codes "help") word) (ends_options word) refl refl
 
 words_agree : (words : List Text) → Agrees (asked_by words) (fault_of program words)
 unfolding clap_on_literals
 words_agree [] = tt
 words_agree (name ∷ []) = tt
 words_agree (name ∷ command ∷ rest) =
-    command_agrees command rest (bytes_eq (codes "serve") command) (bytes_eq (codes "check") command) (bytes_eq (codes "dump") command) (bytes_eq (codes "load") command) (bytes_eq (codes "storm") command) (bytes_eq (codes "get") command) (bytes_eq (codes "put") command) (bytes_eq (codes "del") command) (bytes_eq (codes "swap") command) (bytes_eq (codes "pairs") command) refl refl refl refl refl refl refl refl refl refl
+    command_agrees command rest (bytes_eq (codes "serve") command) (bytes_eq (codes "check") command) (bytes_eq (codes "dump") command) (bytes_eq (codes "load") command) (bytes_eq (codes "storm") command) (bytes_eq (codes "get") command) (bytes_eq (codes "put") command) (bytes_eq (codes "del") command) (bytes_eq (codes "swap") command) (bytes_eq (codes "pairs") command) (bytes_eq (codes "convert") command) refl refl refl refl refl refl refl refl refl refl refl
 
 -- ---- the command that is met, and its values
 
@@ -469,6 +503,10 @@ pairs_command_met : (name : Text) (words : List Text) → subcommand_of program 
 unfolding clap_on_literals
 pairs_command_met name words = met_at (codes "pairs") words
 
+convert_command_met : (name : Text) (words : List Text) → subcommand_of program (name ∷ codes "convert" ∷ words) ≡ Some (codes "convert", rows_after convert_flags [] words)
+unfolding clap_on_literals
+convert_command_met name words = met_at (codes "convert") words
+
 -- the words behind a command with options ask for no other command
 is_by : (by : List Use → Asked) (command : Text) → ((uses : List Use) → command ≡ command_of (by uses)) → (read : Option (List Use)) (asked : Asked) → option_map by read ≡ Some asked → command ≡ command_of asked
 is_by by command is None asked named = absurd (none-some asked named)
@@ -493,6 +531,13 @@ pairs_is_met name rest asked named = record {
   rows = rows_after pairs_flags [] rest;
   met = pairs_command_met name rest ∙ ap (λ command. Some (command, rows_after pairs_flags [] rest)) (is_by paired_by (codes "pairs") (λ uses. refl) (uses_and_path pairs_names rest) asked named);
   values = pairs_met rest asked named;
+}
+
+convert_is_met : (name : Text) (rest : List Text) (asked : Asked) → convert_asked rest ≡ Some asked → Meets program (name ∷ codes "convert" ∷ rest) asked
+convert_is_met name rest asked named = record {
+  rows = rows_after convert_flags [] rest;
+  met = convert_command_met name rest ∙ ap (λ command. Some (command, rows_after convert_flags [] rest)) (is_by converted_by (codes "convert") (λ uses. refl) (uses_and_two_paths convert_names rest) asked named);
+  values = convert_met rest asked named;
 }
 
 load_is_met : (name : Text) (rest : List Text) (asked : Asked) → load_asked rest ≡ Some asked → Meets program (name ∷ codes "load" ∷ rest) asked
@@ -546,36 +591,38 @@ swap_is_met name rest (Some words) asked named same = let has = swap_met rest wo
   values = (has.path, has.key, has.old, has.new);
 })
 
-command_met : (name word : Text) (rest : List Text) (serves checks dumps loads storms gets puts dels swaps pairs : Bool) (asked : Asked) → bytes_eq (codes "serve") word ≡ serves → bytes_eq (codes "check") word ≡ checks → bytes_eq (codes "dump") word ≡ dumps → bytes_eq (codes "load") word ≡ loads → bytes_eq (codes "storm") word ≡ storms → bytes_eq (codes "get") word ≡ gets → bytes_eq (codes "put") word ≡ puts → bytes_eq (codes "del") word ≡ dels → bytes_eq (codes "swap") word ≡ swaps → bytes_eq (codes "pairs") word ≡ pairs
-    → (cond serves (serve_asked rest) (cond checks (option_map Check (path_named rest)) (cond dumps (option_map Dump (path_named rest)) (cond loads (load_asked rest) (cond storms (storm_asked rest) (cond gets (get_asked rest) (cond puts (put_asked rest) (cond dels (del_asked rest) (cond swaps (swap_asked rest) (cond pairs (pairs_asked rest) None)))))))))) ≡ Some asked
+command_met : (name word : Text) (rest : List Text) (serves checks dumps loads storms gets puts dels swaps pairs converts : Bool) (asked : Asked) → bytes_eq (codes "serve") word ≡ serves → bytes_eq (codes "check") word ≡ checks → bytes_eq (codes "dump") word ≡ dumps → bytes_eq (codes "load") word ≡ loads → bytes_eq (codes "storm") word ≡ storms → bytes_eq (codes "get") word ≡ gets → bytes_eq (codes "put") word ≡ puts → bytes_eq (codes "del") word ≡ dels → bytes_eq (codes "swap") word ≡ swaps → bytes_eq (codes "pairs") word ≡ pairs → bytes_eq (codes "convert") word ≡ converts
+    → (cond serves (serve_asked rest) (cond checks (option_map Check (path_named rest)) (cond dumps (option_map Dump (path_named rest)) (cond loads (load_asked rest) (cond storms (storm_asked rest) (cond gets (get_asked rest) (cond puts (put_asked rest) (cond dels (del_asked rest) (cond swaps (swap_asked rest) (cond pairs (pairs_asked rest) (cond converts (convert_asked rest) None))))))))))) ≡ Some asked
     → Meets program (name ∷ word ∷ rest) asked
-command_met name word rest true checks dumps loads storms gets puts dels swaps pairs asked s c d l o g p e w i named =
+command_met name word rest true checks dumps loads storms gets puts dels swaps pairs converts asked s c d l o g p e w i v named =
     subst (λ w. Meets program (name ∷ w ∷ rest) asked) (is_name (codes "serve") word s) (serve_is_met name rest asked named)
-command_met name word rest false true dumps loads storms gets puts dels swaps pairs asked s c d l o g p e w i named =
+command_met name word rest false true dumps loads storms gets puts dels swaps pairs converts asked s c d l o g p e w i v named =
     subst (λ w. Meets program (name ∷ w ∷ rest) asked) (is_name (codes "check") word c) (path_is_met name (codes "check") Check (λ path. refl) (λ path rows is. is) rest (check_met name rest) (path_named rest) asked refl named)
-command_met name word rest false false true loads storms gets puts dels swaps pairs asked s c d l o g p e w i named =
+command_met name word rest false false true loads storms gets puts dels swaps pairs converts asked s c d l o g p e w i v named =
     subst (λ w. Meets program (name ∷ w ∷ rest) asked) (is_name (codes "dump") word d) (path_is_met name (codes "dump") Dump (λ path. refl) (λ path rows is. is) rest (dump_met name rest) (path_named rest) asked refl named)
-command_met name word rest false false false true storms gets puts dels swaps pairs asked s c d l o g p e w i named =
+command_met name word rest false false false true storms gets puts dels swaps pairs converts asked s c d l o g p e w i v named =
     subst (λ w. Meets program (name ∷ w ∷ rest) asked) (is_name (codes "load") word l) (load_is_met name rest asked named)
-command_met name word rest false false false false true gets puts dels swaps pairs asked s c d l o g p e w i named =
+command_met name word rest false false false false true gets puts dels swaps pairs converts asked s c d l o g p e w i v named =
     subst (λ w. Meets program (name ∷ w ∷ rest) asked) (is_name (codes "storm") word o) (storm_is_met name rest asked named)
-command_met name word rest false false false false false true puts dels swaps pairs asked s c d l o g p e w i named =
+command_met name word rest false false false false false true puts dels swaps pairs converts asked s c d l o g p e w i v named =
     subst (λ w. Meets program (name ∷ w ∷ rest) asked) (is_name (codes "get") word g) (get_is_met name rest (path_and_key rest) asked refl named)
-command_met name word rest false false false false false false true dels swaps pairs asked s c d l o g p e w i named =
+command_met name word rest false false false false false false true dels swaps pairs converts asked s c d l o g p e w i v named =
     subst (λ w. Meets program (name ∷ w ∷ rest) asked) (is_name (codes "put") word p) (put_is_met name rest (path_and_two rest) asked refl named)
-command_met name word rest false false false false false false false true swaps pairs asked s c d l o g p e w i named =
+command_met name word rest false false false false false false false true swaps pairs converts asked s c d l o g p e w i v named =
     subst (λ w. Meets program (name ∷ w ∷ rest) asked) (is_name (codes "del") word e) (del_is_met name rest (path_and_key rest) asked refl named)
-command_met name word rest false false false false false false false false true pairs asked s c d l o g p e w i named =
+command_met name word rest false false false false false false false false true pairs converts asked s c d l o g p e w i v named =
     subst (λ w. Meets program (name ∷ w ∷ rest) asked) (is_name (codes "swap") word w) (swap_is_met name rest (path_and_three rest) asked refl named)
-command_met name word rest false false false false false false false false false true asked s c d l o g p e w i named =
+command_met name word rest false false false false false false false false false true converts asked s c d l o g p e w i v named =
     subst (λ w. Meets program (name ∷ w ∷ rest) asked) (is_name (codes "pairs") word i) (pairs_is_met name rest asked named)
-command_met name word rest false false false false false false false false false false asked s c d l o g p e w i named = absurd (none-some asked named)
+command_met name word rest false false false false false false false false false false true asked s c d l o g p e w i v named =
+    subst (λ w. Meets program (name ∷ w ∷ rest) asked) (is_name (codes "convert") word v) (convert_is_met name rest asked named)
+command_met name word rest false false false false false false false false false false false asked s c d l o g p e w i v named = absurd (none-some asked named)
 
 asked_met : (words : List Text) (asked : Asked) → asked_by words ≡ Some asked → Meets program words asked
 asked_met [] asked named = absurd (none-some asked named)
 asked_met (name ∷ []) asked named = absurd (none-some asked named)
 asked_met (name ∷ command ∷ rest) asked named =
-    command_met name command rest (bytes_eq (codes "serve") command) (bytes_eq (codes "check") command) (bytes_eq (codes "dump") command) (bytes_eq (codes "load") command) (bytes_eq (codes "storm") command) (bytes_eq (codes "get") command) (bytes_eq (codes "put") command) (bytes_eq (codes "del") command) (bytes_eq (codes "swap") command) (bytes_eq (codes "pairs") command) asked refl refl refl refl refl refl refl refl refl refl named
+    command_met name command rest (bytes_eq (codes "serve") command) (bytes_eq (codes "check") command) (bytes_eq (codes "dump") command) (bytes_eq (codes "load") command) (bytes_eq (codes "storm") command) (bytes_eq (codes "get") command) (bytes_eq (codes "put") command) (bytes_eq (codes "del") command) (bytes_eq (codes "swap") command) (bytes_eq (codes "pairs") command) (bytes_eq (codes "convert") command) asked refl refl refl refl refl refl refl refl refl refl refl named
 
 -- ---- the version
 
@@ -653,6 +700,7 @@ serves (Get path word) own opened saved is opens saves = absurd (let never : 115
 serves (Put path key value) own opened saved is opens saves = absurd (let never : 115 ≡ 112 = ap (λ (word : Text). slice_index_or word 0 0) is.command_is in omega arith)
 serves (Del path key) own opened saved is opens saves = absurd (let never : 115 ≡ 100 = ap (λ (word : Text). slice_index_or word 0 0) is.command_is in omega arith)
 serves (Swap path key old new) own opened saved is opens saves = absurd (let never : 101 ≡ 119 = ap (λ (word : Text). slice_index_or word 1 0) is.command_is in omega arith)
+serves (Convert path new version) own opened saved is opens saves = absurd (let never : 115 ≡ 99 = ap (λ (word : Text). slice_index_or word 0 0) is.command_is in omega arith)
 serves (Pairs path texts) own opened saved is opens saves = absurd (let never : 115 ≡ 112 = ap (λ (word : Text). slice_index_or word 0 0) is.command_is in omega arith)
 
 -- a path, as it was read
@@ -672,6 +720,7 @@ checks (Get file word) own is path read = absurd (let never : 99 ≡ 103 = ap (�
 checks (Put file key value) own is path read = absurd (let never : 99 ≡ 112 = ap (λ (word : Text). slice_index_or word 0 0) is.command_is in omega arith)
 checks (Del file key) own is path read = absurd (let never : 99 ≡ 100 = ap (λ (word : Text). slice_index_or word 0 0) is.command_is in omega arith)
 checks (Swap file key old new) own is path read = absurd (let never : 99 ≡ 115 = ap (λ (word : Text). slice_index_or word 0 0) is.command_is in omega arith)
+checks (Convert file new version) own is path read = absurd (let never : 104 ≡ 111 = ap (λ (word : Text). slice_index_or word 1 0) is.command_is in omega arith)
 checks (Pairs file texts) own is path read = absurd (let never : 99 ≡ 112 = ap (λ (word : Text). slice_index_or word 0 0) is.command_is in omega arith)
 
 pub dumps : (asked : Asked) (own : ArgMatches) → IsOwn (codes "dump") own asked → (path : Text) → Some path ≡ first_value (found_of own) path_id → Some asked ≡ Some (Dump path)
@@ -684,6 +733,7 @@ dumps (Get file word) own is path read = absurd (let never : 100 ≡ 103 = ap (�
 dumps (Put file key value) own is path read = absurd (let never : 100 ≡ 112 = ap (λ (word : Text). slice_index_or word 0 0) is.command_is in omega arith)
 dumps (Del file key) own is path read = absurd (let never : 117 ≡ 101 = ap (λ (word : Text). slice_index_or word 1 0) is.command_is in omega arith)
 dumps (Swap file key old new) own is path read = absurd (let never : 100 ≡ 115 = ap (λ (word : Text). slice_index_or word 0 0) is.command_is in omega arith)
+dumps (Convert file new version) own is path read = absurd (let never : 100 ≡ 99 = ap (λ (word : Text). slice_index_or word 0 0) is.command_is in omega arith)
 dumps (Pairs file texts) own is path read = absurd (let never : 100 ≡ 112 = ap (λ (word : Text). slice_index_or word 0 0) is.command_is in omega arith)
 
 -- the path and the flags of a load, as they were read
@@ -704,6 +754,7 @@ loads (Get path word) own is = absurd (let never : 108 ≡ 103 = ap (λ (word : 
 loads (Put path key value) own is = absurd (let never : 108 ≡ 112 = ap (λ (word : Text). slice_index_or word 0 0) is.command_is in omega arith)
 loads (Del path key) own is = absurd (let never : 108 ≡ 100 = ap (λ (word : Text). slice_index_or word 0 0) is.command_is in omega arith)
 loads (Swap path key old new) own is = absurd (let never : 108 ≡ 115 = ap (λ (word : Text). slice_index_or word 0 0) is.command_is in omega arith)
+loads (Convert path new version) own is = absurd (let never : 108 ≡ 99 = ap (λ (word : Text). slice_index_or word 0 0) is.command_is in omega arith)
 loads (Pairs path texts) own is = absurd (let never : 108 ≡ 112 = ap (λ (word : Text). slice_index_or word 0 0) is.command_is in omega arith)
 loads (Load path long into) own is = record {
   path = path;
@@ -727,6 +778,7 @@ storms (Get path word) own is = absurd (let never : 115 ≡ 103 = ap (λ (word :
 storms (Put path key value) own is = absurd (let never : 115 ≡ 112 = ap (λ (word : Text). slice_index_or word 0 0) is.command_is in omega arith)
 storms (Del path key) own is = absurd (let never : 115 ≡ 100 = ap (λ (word : Text). slice_index_or word 0 0) is.command_is in omega arith)
 storms (Swap path key old new) own is = absurd (let never : 116 ≡ 119 = ap (λ (word : Text). slice_index_or word 1 0) is.command_is in omega arith)
+storms (Convert path new version) own is = absurd (let never : 115 ≡ 99 = ap (λ (word : Text). slice_index_or word 0 0) is.command_is in omega arith)
 storms (Pairs path texts) own is = absurd (let never : 115 ≡ 112 = ap (λ (word : Text). slice_index_or word 0 0) is.command_is in omega arith)
 storms (Storm texts) own is = ap (λ texts. Some (Storm texts)) (same_texts is.values)
   where
@@ -751,6 +803,7 @@ path_given (Get path word) command own is other = has_path own path is.values.0
 path_given (Put path key value) command own is other = has_path own path is.values.0
 path_given (Del path key) command own is other = has_path own path is.values.0
 path_given (Swap path key old new) command own is other = has_path own path is.values.0
+path_given (Convert path new version) command own is other = has_path own path is.values.0
 path_given (Pairs path texts) command own is other = has_path own path is.values.0
 
 -- a get's words, as they were read
@@ -764,6 +817,7 @@ key_given (Get path word) own is = subst IsSome (sym (first_value-rows (found_of
 key_given (Put path key value) own is = absurd (let never : 103 ≡ 112 = ap (λ (word : Text). slice_index_or word 0 0) is.command_is in omega arith)
 key_given (Del path key) own is = absurd (let never : 103 ≡ 100 = ap (λ (word : Text). slice_index_or word 0 0) is.command_is in omega arith)
 key_given (Swap path key old new) own is = absurd (let never : 103 ≡ 115 = ap (λ (word : Text). slice_index_or word 0 0) is.command_is in omega arith)
+key_given (Convert path new version) own is = absurd (let never : 103 ≡ 99 = ap (λ (word : Text). slice_index_or word 0 0) is.command_is in omega arith)
 key_given (Pairs path texts) own is = absurd (let never : 103 ≡ 112 = ap (λ (word : Text). slice_index_or word 0 0) is.command_is in omega arith)
 
 pub record GivesKey (asked : Asked) (own : ArgMatches) : Type 0 where
@@ -782,6 +836,7 @@ gets (Storm texts) own is = absurd (let never : 103 ≡ 115 = ap (λ (word : Tex
 gets (Put path key value) own is = absurd (let never : 103 ≡ 112 = ap (λ (word : Text). slice_index_or word 0 0) is.command_is in omega arith)
 gets (Del path key) own is = absurd (let never : 103 ≡ 100 = ap (λ (word : Text). slice_index_or word 0 0) is.command_is in omega arith)
 gets (Swap path key old new) own is = absurd (let never : 103 ≡ 115 = ap (λ (word : Text). slice_index_or word 0 0) is.command_is in omega arith)
+gets (Convert path new version) own is = absurd (let never : 103 ≡ 99 = ap (λ (word : Text). slice_index_or word 0 0) is.command_is in omega arith)
 gets (Pairs path texts) own is = absurd (let never : 103 ≡ 112 = ap (λ (word : Text). slice_index_or word 0 0) is.command_is in omega arith)
 gets (Get path word) own is = record {
   path = path;
@@ -810,6 +865,7 @@ puts (Storm texts) own is = absurd (let never : 112 ≡ 115 = ap (λ (word : Tex
 puts (Get path word) own is = absurd (let never : 112 ≡ 103 = ap (λ (word : Text). slice_index_or word 0 0) is.command_is in omega arith)
 puts (Del path key) own is = absurd (let never : 112 ≡ 100 = ap (λ (word : Text). slice_index_or word 0 0) is.command_is in omega arith)
 puts (Swap path key old new) own is = absurd (let never : 112 ≡ 115 = ap (λ (word : Text). slice_index_or word 0 0) is.command_is in omega arith)
+puts (Convert path new version) own is = absurd (let never : 112 ≡ 99 = ap (λ (word : Text). slice_index_or word 0 0) is.command_is in omega arith)
 puts (Pairs path texts) own is = absurd (let never : 117 ≡ 97 = ap (λ (word : Text). slice_index_or word 1 0) is.command_is in omega arith)
 puts (Put path key value) own is = record {
   path = path;
@@ -838,6 +894,7 @@ dels (Storm texts) own is = absurd (let never : 100 ≡ 115 = ap (λ (word : Tex
 dels (Get path word) own is = absurd (let never : 100 ≡ 103 = ap (λ (word : Text). slice_index_or word 0 0) is.command_is in omega arith)
 dels (Put path key value) own is = absurd (let never : 100 ≡ 112 = ap (λ (word : Text). slice_index_or word 0 0) is.command_is in omega arith)
 dels (Swap path key old new) own is = absurd (let never : 100 ≡ 115 = ap (λ (word : Text). slice_index_or word 0 0) is.command_is in omega arith)
+dels (Convert path new version) own is = absurd (let never : 100 ≡ 99 = ap (λ (word : Text). slice_index_or word 0 0) is.command_is in omega arith)
 dels (Pairs path texts) own is = absurd (let never : 100 ≡ 112 = ap (λ (word : Text). slice_index_or word 0 0) is.command_is in omega arith)
 dels (Del path key) own is = record {
   path = path;
@@ -868,6 +925,7 @@ swaps (Storm texts) own is = absurd (let never : 119 ≡ 116 = ap (λ (word : Te
 swaps (Get path word) own is = absurd (let never : 115 ≡ 103 = ap (λ (word : Text). slice_index_or word 0 0) is.command_is in omega arith)
 swaps (Put path key value) own is = absurd (let never : 115 ≡ 112 = ap (λ (word : Text). slice_index_or word 0 0) is.command_is in omega arith)
 swaps (Del path key) own is = absurd (let never : 115 ≡ 100 = ap (λ (word : Text). slice_index_or word 0 0) is.command_is in omega arith)
+swaps (Convert path new version) own is = absurd (let never : 115 ≡ 99 = ap (λ (word : Text). slice_index_or word 0 0) is.command_is in omega arith)
 swaps (Pairs path texts) own is = absurd (let never : 115 ≡ 112 = ap (λ (word : Text). slice_index_or word 0 0) is.command_is in omega arith)
 swaps (Swap path key old new) own is = record {
   path = path;
@@ -897,6 +955,7 @@ pairs (Get path word) own is = absurd (let never : 112 ≡ 103 = ap (λ (word : 
 pairs (Put path key value) own is = absurd (let never : 97 ≡ 117 = ap (λ (word : Text). slice_index_or word 1 0) is.command_is in omega arith)
 pairs (Del path key) own is = absurd (let never : 112 ≡ 100 = ap (λ (word : Text). slice_index_or word 0 0) is.command_is in omega arith)
 pairs (Swap path key old new) own is = absurd (let never : 112 ≡ 115 = ap (λ (word : Text). slice_index_or word 0 0) is.command_is in omega arith)
+pairs (Convert path new version) own is = absurd (let never : 112 ≡ 99 = ap (λ (word : Text). slice_index_or word 0 0) is.command_is in omega arith)
 pairs (Pairs path texts) own is = record {
   path = path;
   asked_is = ap (λ texts. Some (Pairs path texts)) (same_texts is.values.1);
@@ -908,6 +967,33 @@ pairs (Pairs path texts) own is = record {
         ap₂ (λ cap (p : Option Text × Option Text). record { cap = cap; wards = p.0; keyer = p.1 }) (same_text own cap_name texts.cap has.cap)
         (ap₂ (λ a b. (a, b)) (same_text own wards_name texts.wards has.wards) (same_text own keyer_name texts.keyer has.keyer))
 
+-- the paths of a conversion, and the text of its version, as they were read
+pub record GivesConvert (asked : Asked) (own : ArgMatches) : Type 0 where
+  pub path : Text
+  pub new : Text
+  pub asked_is : Some asked ≡ Some (Convert path new (first_value (found_of own) version_name))
+  pub path_is : Some path ≡ first_value (found_of own) path_id
+  pub new_is : Some new ≡ first_value (found_of own) new_id
+
+pub converts : (asked : Asked) (own : ArgMatches) → IsOwn (codes "convert") own asked → GivesConvert asked own
+converts (Serve opening saving) own is = absurd (let never : 99 ≡ 115 = ap (λ (word : Text). slice_index_or word 0 0) is.command_is in omega arith)
+converts (Check path) own is = absurd (let never : 111 ≡ 104 = ap (λ (word : Text). slice_index_or word 1 0) is.command_is in omega arith)
+converts (Dump path) own is = absurd (let never : 99 ≡ 100 = ap (λ (word : Text). slice_index_or word 0 0) is.command_is in omega arith)
+converts (Load path long into) own is = absurd (let never : 99 ≡ 108 = ap (λ (word : Text). slice_index_or word 0 0) is.command_is in omega arith)
+converts (Storm texts) own is = absurd (let never : 99 ≡ 115 = ap (λ (word : Text). slice_index_or word 0 0) is.command_is in omega arith)
+converts (Get path word) own is = absurd (let never : 99 ≡ 103 = ap (λ (word : Text). slice_index_or word 0 0) is.command_is in omega arith)
+converts (Put path key value) own is = absurd (let never : 99 ≡ 112 = ap (λ (word : Text). slice_index_or word 0 0) is.command_is in omega arith)
+converts (Del path key) own is = absurd (let never : 99 ≡ 100 = ap (λ (word : Text). slice_index_or word 0 0) is.command_is in omega arith)
+converts (Swap path key old new) own is = absurd (let never : 99 ≡ 115 = ap (λ (word : Text). slice_index_or word 0 0) is.command_is in omega arith)
+converts (Pairs path texts) own is = absurd (let never : 99 ≡ 112 = ap (λ (word : Text). slice_index_or word 0 0) is.command_is in omega arith)
+converts (Convert path new version) own is = record {
+  path = path;
+  new = new;
+  asked_is = ap (λ version. Some (Convert path new version)) (same_text own version_name version is.values.2);
+  path_is = sym (first_value-rows (found_of own) path_id ∙ is.values.0);
+  new_is = sym (first_value-rows (found_of own) new_id ∙ is.values.1);
+}
+
 pub no_options : (command : Text) → (command ≡ codes "check") ⊎ (command ≡ codes "dump") ⊎ (command ≡ codes "load") ⊎ (command ≡ codes "get") → (command ≡ codes "serve" → ⊥) × (command ≡ codes "storm" → ⊥)
 no_options command is = (λ same. begins_apart is (ap (λ (word : Text). slice_index_or word 0 0) same), λ same. begins_apart is (ap (λ (word : Text). slice_index_or word 0 0) same))
   where
@@ -918,17 +1004,18 @@ no_options command is = (λ same. begins_apart is (ap (λ (word : Text). slice_i
     begins_apart (inr (inr (inr is))) begins = let never : 103 ≡ 115 = ap (λ (word : Text). slice_index_or word 0 0) (sym is) ∙ begins in absurd (omega (arith, never))
 
 -- there is no other command
-pub is_command : (asked : Asked) (command : Text) (own : ArgMatches) → IsOwn command own asked → (command ≡ codes "serve" → ⊥) → (command ≡ codes "check" → ⊥) → (command ≡ codes "dump" → ⊥) → (command ≡ codes "load" → ⊥) → (command ≡ codes "storm" → ⊥) → (command ≡ codes "get" → ⊥) → (command ≡ codes "put" → ⊥) → (command ≡ codes "del" → ⊥) → (command ≡ codes "swap" → ⊥) → (command ≡ codes "pairs" → ⊥) → ⊥
-is_command (Serve opening saving) command own is no_serve no_check no_dump no_load no_storm no_get no_put no_del no_swap no_pairs = no_serve is.command_is
-is_command (Check path) command own is no_serve no_check no_dump no_load no_storm no_get no_put no_del no_swap no_pairs = no_check is.command_is
-is_command (Dump path) command own is no_serve no_check no_dump no_load no_storm no_get no_put no_del no_swap no_pairs = no_dump is.command_is
-is_command (Load path long into) command own is no_serve no_check no_dump no_load no_storm no_get no_put no_del no_swap no_pairs = no_load is.command_is
-is_command (Storm texts) command own is no_serve no_check no_dump no_load no_storm no_get no_put no_del no_swap no_pairs = no_storm is.command_is
-is_command (Get path word) command own is no_serve no_check no_dump no_load no_storm no_get no_put no_del no_swap no_pairs = no_get is.command_is
-is_command (Put path key value) command own is no_serve no_check no_dump no_load no_storm no_get no_put no_del no_swap no_pairs = no_put is.command_is
-is_command (Del path key) command own is no_serve no_check no_dump no_load no_storm no_get no_put no_del no_swap no_pairs = no_del is.command_is
-is_command (Swap path key old new) command own is no_serve no_check no_dump no_load no_storm no_get no_put no_del no_swap no_pairs = no_swap is.command_is
-is_command (Pairs path texts) command own is no_serve no_check no_dump no_load no_storm no_get no_put no_del no_swap no_pairs = no_pairs is.command_is
+pub is_command : (asked : Asked) (command : Text) (own : ArgMatches) → IsOwn command own asked → (command ≡ codes "serve" → ⊥) → (command ≡ codes "check" → ⊥) → (command ≡ codes "dump" → ⊥) → (command ≡ codes "load" → ⊥) → (command ≡ codes "storm" → ⊥) → (command ≡ codes "get" → ⊥) → (command ≡ codes "put" → ⊥) → (command ≡ codes "del" → ⊥) → (command ≡ codes "swap" → ⊥) → (command ≡ codes "pairs" → ⊥) → (command ≡ codes "convert" → ⊥) → ⊥
+is_command (Serve opening saving) command own is no_serve no_check no_dump no_load no_storm no_get no_put no_del no_swap no_pairs no_convert = no_serve is.command_is
+is_command (Check path) command own is no_serve no_check no_dump no_load no_storm no_get no_put no_del no_swap no_pairs no_convert = no_check is.command_is
+is_command (Dump path) command own is no_serve no_check no_dump no_load no_storm no_get no_put no_del no_swap no_pairs no_convert = no_dump is.command_is
+is_command (Load path long into) command own is no_serve no_check no_dump no_load no_storm no_get no_put no_del no_swap no_pairs no_convert = no_load is.command_is
+is_command (Storm texts) command own is no_serve no_check no_dump no_load no_storm no_get no_put no_del no_swap no_pairs no_convert = no_storm is.command_is
+is_command (Get path word) command own is no_serve no_check no_dump no_load no_storm no_get no_put no_del no_swap no_pairs no_convert = no_get is.command_is
+is_command (Put path key value) command own is no_serve no_check no_dump no_load no_storm no_get no_put no_del no_swap no_pairs no_convert = no_put is.command_is
+is_command (Del path key) command own is no_serve no_check no_dump no_load no_storm no_get no_put no_del no_swap no_pairs no_convert = no_del is.command_is
+is_command (Swap path key old new) command own is no_serve no_check no_dump no_load no_storm no_get no_put no_del no_swap no_pairs no_convert = no_swap is.command_is
+is_command (Pairs path texts) command own is no_serve no_check no_dump no_load no_storm no_get no_put no_del no_swap no_pairs no_convert = no_pairs is.command_is
+is_command (Convert path new version) command own is no_serve no_check no_dump no_load no_storm no_get no_put no_del no_swap no_pairs no_convert = no_convert is.command_is
 
 -- ---- the job of a command
 

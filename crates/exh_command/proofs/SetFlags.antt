@@ -1,5 +1,5 @@
 -- A command whose arguments are a path and flags: which words it takes, and what it then holds.
-use Rattle.std.proofs.Common.{◌≡◌, ◌∙◌, ℕ, Bool, true, false, List, [], ◌∷◌, ◌++◌, Option, Some, None, refl, sym, ap, ap₂, subst, codes, cond, is_some}
+use Rattle.std.proofs.Common.{◌≡◌, ◌∙◌, ℕ, ◌+◌, Bool, true, false, List, [], ◌∷◌, ◌++◌, Option, Some, None, refl, sym, ap, ap₂, subst, codes, cond, is_some}
 use Rattle.std.specs.Prelude.{not, ◌&&◌, ◌||◌, find, fold, map, option_and_then, option_map, slice_get, unwrap_or}
 use Rattle.std.specs.List.{list_all, list_any}
 use Rattle.std.specs.Option.{option_map_or}
@@ -8,7 +8,7 @@ use Rattle.std.proofs.lemmas.Bool.{and_parts}
 use Rattle.std.proofs.lemmas.Slice.Eq.{bytes_eq-Decides}
 use Rattle.clap.specs.Words.{Row, Rule, Text, first_of, one_of}
 use Rattle.clap.specs.Lexer.{long_of}
-use Rattle.clap.specs.Walk.{arg_by_index, arg_by_long, arg_by_short, at_row, has_long, has_row, has_short, more_values, reading_by, row_text, with_default}
+use Rattle.clap.specs.Walk.{arg_by_id, arg_by_index, arg_by_long, arg_by_short, at_row, has_long, has_row, has_short, more_values, reading_by, row_text, with_default}
 use Rattle.clap.specs.Facts.{explicit_source}
 use Rattle.clap.specs.Kinds.{check_kinds, or_else}
 use Rattle.clap.specs.Takes.{is_given}
@@ -16,10 +16,11 @@ use Rattle.clap.specs.Faults.{check_fault, default_fault, defaults_fault, given_
 use Rattle.clap.specs.declared.parser.matches.ValueSource.TheVariants.{DefaultValue}
 use Rattle.clap.proofs.OnLiterals.{clap_on_literals}
 use Rattle.clap.proofs.WalkLemmas.{find-map}
-use Rattle.exh_command.specs.Words.{Between, Ended, Reading, Use, Wanting, Wrong, after_option, after_path, after_word, ends_options, flag_set, flagged_by, gives_path, is_named, is_option, is_use_of, option_given, path_name, uses_read, uses_taken, wants_path}
+use Rattle.exh_command.specs.Words.{Between, Ended, Reading, Use, Wanting, Wrong, after_option, after_place, after_word, ends_options, flag_set, flagged_by, gives, is_named, is_option, is_use_of, next_place, option_given, path_name, placed_at, uses_read, uses_taken, whole_at}
 use Rattle.exh_command.specs.Parser.{flag_text}
-use Rattle.exh_command.proofs.OptionFlags.{default_kept, fails_where, given_path, help_asking, or-true}
-use Rattle.exh_command.proofs.OptionLemmas.{FailsWhere, IsOptionLeaf, flag_built, leaf_of, or-false, path_built, row_of_use, rows_of_uses}
+use Rattle.exh_command.proofs.OptionFlags.{default_kept, fails_where, given_place, help_asking, is_path, lacks, one_path, path_moves, path_wanted, place_is}
+use Rattle.exh_command.proofs.OptionLemmas.{FailsWhere, IsOptionLeaf, flag_built, leaf_of, path_built, place_built, row_of_use, rows_of_uses}
+use Rattle.exh_command.proofs.PlaceLemmas.{or-false, or-true}
 use Rattle.exh_command.proofs.WordLemmas.{IsAsking, help, is_name, some_is}
 
 -- ---- the flags of these names, and the one that asks for help
@@ -56,7 +57,7 @@ none_placed : (flags : List Text) (position : ℕ) → arg_by_index (set_flags f
 none_placed [] position = refl
 none_placed (first ∷ flags) position = none_placed flags position
 
-path_place : (flags : List Text) (used : Bool) → arg_by_index (path_and_flags flags) (cond used 2 1) ≡ cond (not used) (Some path_built) None
+path_place : (flags : List Text) (used : Bool) → arg_by_index (path_and_flags flags) (cond used (1 + 1) 1) ≡ option_map (place_built (cond used (1 + 1) 1)) (cond (not used) (Some path_name) None)
 path_place flags true = none_placed flags 2
 path_place flags false = refl
 
@@ -154,9 +155,6 @@ path_kept (first ∷ flags) apart rows = go (bytes_eq first path_name) refl apar
     go true e apart more = cc
     go false e apart more = more apart ∙ other_found first rows path_name e
 
-abbrev lacks : List Row → Rule → Bool
-lacks rows a = a.required && not (is_given a.id rows)
-
 none_required : (flags : List Text) (rows : List Row) → list_any (lacks rows) (set_flags flags) ≡ false
 none_required [] rows = refl
 none_required (first ∷ flags) rows = none_required flags rows
@@ -168,26 +166,30 @@ abbrev is_told : Option Row → Bool
 is_told found = option_map_or (λ (r : Row). explicit_source r.source) found false
 
 path_ends : (command : Text) (flags : List Text) → is_named flags path_name ≡ false → (uses : List Use)
-    → FailsWhere (not (gives_path uses)) (or_else (defaults_fault (rows_of_uses uses) (path_and_flags flags)) (check_fault (leaf_of command (path_and_flags flags)) (fold with_default (rows_of_uses uses) (path_and_flags flags)) false))
+    → FailsWhere (is_some (next_place one_path uses)) (or_else (defaults_fault (rows_of_uses uses) (path_and_flags flags)) (check_fault (leaf_of command (path_and_flags flags)) (fold with_default (rows_of_uses uses) (path_and_flags flags)) false))
 path_ends command flags apart uses =
     let rows = fold with_default (rows_of_uses uses) (path_and_flags flags) in
     let leaf = leaf_of command (path_and_flags flags) in
-    let given : is_given path_name rows ≡ gives_path uses = ap is_told (ap (found_at path_name) (path_first flags (rows_of_uses uses)) ∙ path_kept flags apart (rows_of_uses uses)) ∙ given_path uses in
-    let is : list_any (lacks rows) (path_and_flags flags) ≡ not (gives_path uses) = ap₂ (λ a b. not a || b) given (none_required flags rows) ∙ or-false (not (gives_path uses)) in
-    subst (λ kinds. FailsWhere (not (gives_path uses)) (or_else kinds (check_fault leaf rows false))) (sym (path_defaults flags (rows_of_uses uses)))
-    (subst (λ wants. FailsWhere (not (gives_path uses)) (check_kinds false false wants)) (sym is) (fails_where (not (gives_path uses))))
+    let wanted = not (gives uses path_name) in
+    let given : is_given path_name rows ≡ gives uses path_name = ap is_told (ap (found_at path_name) (path_first flags (rows_of_uses uses)) ∙ path_kept flags apart (rows_of_uses uses)) ∙ given_place path_name uses in
+    let is : list_any (lacks rows) (path_and_flags flags) ≡ wanted = ap₂ (λ a b. not a || b) given (none_required flags rows) ∙ or-false wanted in
+    subst (λ wants. FailsWhere wants (or_else (defaults_fault (rows_of_uses uses) (path_and_flags flags)) (check_fault leaf rows false))) (sym (path_wanted (gives uses path_name)))
+    (subst (λ kinds. FailsWhere wanted (or_else kinds (check_fault leaf rows false))) (sym (path_defaults flags (rows_of_uses uses)))
+    (subst (λ wants. FailsWhere wanted (check_kinds false false wants)) (sym is) (fails_where wanted)))
 
-pub flags_leaf_of : (command : Text) (flags : List Text) → is_named flags path_name ≡ false → IsOptionLeaf true command (path_and_flags flags) [] flags
+pub flags_leaf_of : (command : Text) (flags : List Text) → is_named flags path_name ≡ false → IsOptionLeaf one_path command (path_and_flags flags) [] flags
 flags_leaf_of command flags apart = record {
   by_long_name = λ name never. cc;
   by_id = λ name never. cc;
   by_long_flag = λ name other named. set_by_long flags name named;
   asks = λ name other unset. set_asks flags name unset;
   asks_short = set_asks_short flags;
-  path_by_id = λ takes. refl;
-  placed = path_place flags;
+  place_by_id = λ place named. (1, subst (λ place. arg_by_id (path_and_flags flags) place ≡ Some (place_built 1 place)) (is_path place named) (place_is path_name (set_flags flags) 1));
+  placed = λ uses. path_place flags (gives uses path_name);
+  moves = λ uses. path_moves (gives uses path_name);
+  distinct = refl;
   no_option = refl;
-  no_flag = apart;
+  no_flag = or-false (is_named flags path_name) ∙ apart;
   ends = path_ends command flags apart;
 }
 
@@ -215,12 +217,12 @@ module _ (flags : List Text) where
   ReadsSet Wrong = Unit {0}
 
   module _ (apart : is_named flags path_name ≡ false) where
-    path_set : (read : List Use → Reading) → ((uses : List Use) → AllSet uses → ReadsSet (read uses)) → (word : Text) (uses : List Use) → AllSet uses → ReadsSet (after_path true read word uses)
-    path_set read keeps word uses all = go (wants_path true uses)
+    path_set : (read : List Use → Reading) → ((uses : List Use) → AllSet uses → ReadsSet (read uses)) → (word : Text) (uses : List Use) → AllSet uses → ReadsSet (after_place one_path read word uses)
+    path_set read keeps word uses all = go (gives uses path_name)
       where
-        go : (wants : Bool) → ReadsSet (cond wants (read (uses ++ record { name = path_name; value = word } ∷ [])) Wrong)
-        go true = keeps _ (one_more uses (record { name = path_name; value = word }) all (rw apart refl))
-        go false = tt
+        go : (given : Bool) → ReadsSet (placed_at read word uses (cond (not given) (Some path_name) None))
+        go true = tt
+        go false = keeps _ (one_more uses (record { name = path_name; value = word }) all (rw apart refl))
 
     flag_is_set : (name : Text) → is_set (record { name = name; value = flag_set }) ≡ true
     unfolding clap_on_literals
@@ -242,10 +244,10 @@ module _ (flags : List Text) where
         go true = sets p.0 p.1 uses all
         go false = tt
 
-    word_set : (reading : Reading) (word : Text) → ReadsSet reading → ReadsSet (after_word true [] flags reading word)
+    word_set : (reading : Reading) (word : Text) → ReadsSet reading → ReadsSet (after_word one_path [] flags reading word)
     word_set (Between uses) word all = go (ends_options word) (is_option word)
       where
-        go : (ends option : Bool) → ReadsSet (cond ends (Ended uses) (cond option (after_option [] flags (long_of word) uses) (after_path true Between word uses)))
+        go : (ends option : Bool) → ReadsSet (cond ends (Ended uses) (cond option (after_option [] flags (long_of word) uses) (after_place one_path Between word uses)))
         go true option = all
         go false true = option_set (long_of word) uses all
         go false false = path_set Between (λ uses all. all) word uses all
@@ -253,22 +255,22 @@ module _ (flags : List Text) where
     word_set (Ended uses) word all = path_set Ended (λ uses all. all) word uses all
     word_set Wrong word all = tt
 
-    words_set : (words : List Text) (reading : Reading) → ReadsSet reading → ReadsSet (fold (after_word true [] flags) reading words)
+    words_set : (words : List Text) (reading : Reading) → ReadsSet reading → ReadsSet (fold (after_word one_path [] flags) reading words)
     words_set [] reading all = all
-    words_set (word ∷ words) reading all = words_set words (after_word true [] flags reading word) (word_set reading word all)
+    words_set (word ∷ words) reading all = words_set words (after_word one_path [] flags reading word) (word_set reading word all)
 
-    whole_set : (uses found : List Use) → AllSet uses → (wants : Bool) → cond wants None (Some uses) ≡ Some found → AllSet found
-    whole_set uses found all true same = cc
-    whole_set uses found all false same = subst AllSet (some_is same) all
+    whole_set : (uses found : List Use) → AllSet uses → (next : Option Text) → whole_at uses next ≡ Some found → AllSet found
+    whole_set uses found all (Some place) same = cc
+    whole_set uses found all None same = subst AllSet (some_is same) all
 
-    read_set : (reading : Reading) (uses : List Use) → ReadsSet reading → uses_read true reading ≡ Some uses → AllSet uses
-    read_set (Between uses) found all same = whole_set uses found all (wants_path true uses) same
+    read_set : (reading : Reading) (uses : List Use) → ReadsSet reading → uses_read one_path reading ≡ Some uses → AllSet uses
+    read_set (Between uses) found all same = whole_set uses found all (next_place one_path uses) same
     read_set (Wanting name uses) found all same = absurd all
-    read_set (Ended uses) found all same = whole_set uses found all (wants_path true uses) same
+    read_set (Ended uses) found all same = whole_set uses found all (next_place one_path uses) same
     read_set Wrong found all same = cc
 
-    pub uses_set : (words : List Text) (uses : List Use) → uses_taken true [] flags words ≡ Some uses → AllSet uses
-    uses_set words uses same = read_set (fold (after_word true [] flags) (Between []) words) uses (words_set words (Between []) refl) same
+    pub uses_set : (words : List Text) (uses : List Use) → uses_taken one_path [] flags words ≡ Some uses → AllSet uses
+    uses_set words uses same = read_set (fold (after_word one_path [] flags) (Between []) words) uses (words_set words (Between []) refl) same
 
   -- the use that is found of a flag
   found_set : (name : Text) → is_named flags name ≡ true → (uses : List Use) (one : Use) → AllSet uses → find (is_use_of name) uses ≡ Some one → one.value ≡ flag_set

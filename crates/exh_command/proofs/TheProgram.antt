@@ -2,8 +2,8 @@
 use Rattle.std.proofs.Common.{◌≡◌, ◌∙◌, Bool, false, ap₂, codes}
 use Rattle.std.specs.Prelude.{◌||◌}
 use Rattle.clap.specs.Words.{App, Rule, Shape, with_rule, with_subcommand}
-use Rattle.exh_command.specs.Job.{load_flags, pairs_names, serve_names, storm_names}
-use Rattle.exh_command.specs.Parser.{about_key, about_path, about_path_flagged, about_path_with, about_two_values, about_value, with_options}
+use Rattle.exh_command.specs.Job.{convert_names, load_flags, pairs_names, serve_names, storm_names}
+use Rattle.exh_command.specs.Parser.{about_key, about_path, about_path_flagged, about_path_with, about_two_paths_with, about_two_values, about_value, with_options}
 use Rattle.exh_command.specs.Program.{bare_program}
 
 abbrev pub serve : Shape
@@ -18,8 +18,11 @@ storm = with_options (codes "storm") storm_names
 abbrev pub pairs : Shape
 pairs = about_path_with (codes "pairs") pairs_names
 
+abbrev pub convert : Shape
+convert = about_two_paths_with (codes "convert") convert_names
+
 abbrev pub program : App
-program = with_subcommand (with_subcommand (with_subcommand (with_subcommand (with_subcommand (with_subcommand (with_subcommand (with_subcommand (with_subcommand (with_subcommand bare_program serve) (about_path (codes "check"))) (about_path (codes "dump"))) load) storm) (about_key (codes "get"))) (about_value (codes "put"))) (about_key (codes "del"))) (about_two_values (codes "swap"))) pairs
+program = with_subcommand (with_subcommand (with_subcommand (with_subcommand (with_subcommand (with_subcommand (with_subcommand (with_subcommand (with_subcommand (with_subcommand (with_subcommand bare_program serve) (about_path (codes "check"))) (about_path (codes "dump"))) load) storm) (about_key (codes "get"))) (about_value (codes "put"))) (about_key (codes "del"))) (about_two_values (codes "swap"))) pairs) convert
 
 -- rules added one behind the other, none of them of the commands below
 pub own_still : {was global now : Bool} → was ≡ false → global ≡ false → now ≡ (was || global) → now ≡ false

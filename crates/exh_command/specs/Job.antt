@@ -1,5 +1,5 @@
 -- The job that a command line names.
-use Rattle.std.specs.Prelude.{◌≡◌, ◌≤◌, ⊤, ℕ, Bool, true, false, ◌&&◌, leb, List, [], ◌∷◌, Option, Some, None, IfSome, is_some, option_map, option_and_then, unwrap_or, codes, if◌then◌else◌}
+use Rattle.std.specs.Prelude.{◌≡◌, ◌≤◌, ◌==◌, ⊤, ℕ, Bool, true, false, ◌&&◌, leb, List, [], ◌∷◌, Option, Some, None, IfSome, is_some, option_map, option_and_then, unwrap_or, codes, if◌then◌else◌}
 use Rattle.std.specs.Str.{bytes_eq}
 use Rattle.exh_page.specs.declared.page.TheConstants.{CAP_LIMIT}
 use Rattle.exh_prefix.specs.declared.prefix.TheConstants.{WARD_BITS_LIMIT}
@@ -12,10 +12,12 @@ use Rattle.exh_text.specs.Numbers.{number_spelled}
 use Rattle.exh_settings.specs.StormConfig.{IsStormConfig}
 use Rattle.exh_settings.specs.declared.storm_config.StormConfig.{StormConfig}
 use Rattle.exh_settings.specs.declared.storm_config.TheConstants.{CALLERS_LIMIT, CALLS_LIMIT, COPIES_LIMIT}
-use Rattle.exh_command.specs.Words.{Use, flags_and_path, path_and_key, path_and_three, path_and_two, path_name, path_named, uses_and_path, uses_named, option_given}
+use Rattle.exh_command.specs.Words.{Use, flags_and_path, new_path_name, path_and_key, path_and_three, path_and_two, path_name, path_named, uses_and_path, uses_and_two_paths, uses_named, option_given}
 use Rattle.exh_command.specs.declared.job.Job.{Job}
 use Rattle.exh_command.specs.declared.load_way.LoadWay.{LoadWay}
 use Rattle.exh_command.specs.declared.load_way.LoadWay.TheVariants.{Short, Long, Into}
+use Rattle.exh_command.specs.declared.page_file_version.PageFileVersion.{PageFileVersion}
+use Rattle.exh_command.specs.declared.page_file_version.PageFileVersion.TheVariants.{Second, Third}
 use Rattle.exh_command.specs.declared.job.Job.TheVariants as jobs
 
 -- the texts of a storm's numbers, where they were given
@@ -49,6 +51,8 @@ pub data Asked : Type 0 where
   Swap : List ℕ → List ℕ → List ℕ → List ℕ → Asked
   -- the file, and the settings that its text is to begin with
   Pairs : List ℕ → PairsTexts → Asked
+  -- the file, the new one, and the number of its version
+  Convert : List ℕ → List ℕ → Option (List ℕ) → Asked
 
 -- a job, with the texts of its paths, its numbers and the bytes of its key
 pub data Named : Type 0 where
@@ -61,6 +65,7 @@ pub data Named : Type 0 where
   Changing : List ℕ → Call → Named
   -- the cap, the ward bits and the keyer that were given
   Pairing : List ℕ → Option ℕ → Option ℕ → Option AnyKeyer → Named
+  Converting : List ℕ → List ℕ → PageFileVersion → Named
 
 abbrev pub named_of : Job → Named
 named_of (jobs.Serve opened saved) = Serving (option_map (λ path. path.now) opened) (option_map (λ path. path.now) saved)
@@ -71,6 +76,7 @@ named_of (jobs.Storm config) = Storming config
 named_of (jobs.Get path key) = Getting path.now key
 named_of (jobs.Change path call) = Changing path.now call
 named_of (jobs.Pairs path cap ward_bits keyer) = Pairing path.now cap ward_bits keyer
+named_of (jobs.Convert path new version) = Converting path.now new.now version
 
 -- the numbers of a storm, and those of a text of pairs, are within the limits
 abbrev pub IsWithinLimits : Job → Type 0
@@ -82,6 +88,7 @@ IsWithinLimits (jobs.Storm config) = IsStormConfig config
 IsWithinLimits (jobs.Get path key) = ⊤
 IsWithinLimits (jobs.Change path call) = ⊤
 IsWithinLimits (jobs.Pairs path cap ward_bits keyer) = IfSome cap (λ cap. (1 ≤ cap) × (cap ≤ CAP_LIMIT)) × IfSome ward_bits (λ bits. bits ≤ WARD_BITS_LIMIT)
+IsWithinLimits (jobs.Convert path new version) = ⊤
 
 -- ---- the words behind a command
 
@@ -191,6 +198,19 @@ paired_by uses = Pairs (unwrap_or (option_given path_name uses) []) (record {
 abbrev pub pairs_asked : List (List ℕ) → Option Asked
 pairs_asked words = option_map paired_by (uses_and_path pairs_names words)
 
+-- `convert` takes a path, a new one, and an option
+abbrev pub version_name : List ℕ
+version_name = codes "version"
+
+abbrev pub convert_names : List (List ℕ)
+convert_names = version_name ∷ []
+
+abbrev pub converted_by : List Use → Asked
+converted_by uses = Convert (unwrap_or (option_given path_name uses) []) (unwrap_or (option_given new_path_name uses) []) (option_given version_name uses)
+
+abbrev pub convert_asked : List (List ℕ) → Option Asked
+convert_asked words = option_map converted_by (uses_and_two_paths convert_names words)
+
 -- ---- a whole command line
 
 -- the program's name, a command, and the command's own words
@@ -207,7 +227,8 @@ asked_by (program ∷ command ∷ rest) =
     else (if bytes_eq (codes "put") command then put_asked rest
     else (if bytes_eq (codes "del") command then del_asked rest
     else (if bytes_eq (codes "swap") command then swap_asked rest
-    else (if bytes_eq (codes "pairs") command then pairs_asked rest else None)))))))))
+    else (if bytes_eq (codes "pairs") command then pairs_asked rest
+    else (if bytes_eq (codes "convert") command then convert_asked rest else None))))))))))
 
 -- ---- the numbers of a storm
 
@@ -253,6 +274,16 @@ pairing_of path texts =
     (number_given 0 WARD_BITS_LIMIT texts.wards))
     (number_given 1 CAP_LIMIT texts.cap)
 
+-- ---- the version of a new page file
+
+abbrev pub version_numbered : ℕ → Option PageFileVersion
+version_numbered number = if number == 2 then Some Second else (if number == 3 then Some Third else None)
+
+-- that of the number that a text spells, or the third, where there is no text
+abbrev pub version_of : Option (List ℕ) → Option PageFileVersion
+version_of None = Some Third
+version_of (Some word) = option_and_then version_numbered (number_spelled word)
+
 -- ---- the way of a load
 
 -- as one of the flags says, or neither; both of them say none
@@ -284,7 +315,7 @@ del_spelled key = option_map calls.Del (key_spelled key)
 abbrev pub swap_spelled : List ℕ → List ℕ → List ℕ → Option Call
 swap_spelled key old new = option_and_then (λ k. option_and_then (λ o. option_map (calls.Swap k o) (value_spelled new)) (value_spelled old)) (key_spelled key)
 
--- the job that a command comes to: of a load where its flags say a way, of a storm and of pairs where all their numbers and keyers are some, of a command about a key where its words spell a key and values
+-- the job that a command comes to: of a load where its flags say a way, of a storm and of pairs where all their numbers and keyers are some, of a conversion where its version is one, of a command about a key where its words spell a key and values
 abbrev pub job_asked : Asked → Option Named
 job_asked (Serve opened saved) = Some (Serving opened saved)
 job_asked (Check path) = Some (Checking path)
@@ -296,6 +327,7 @@ job_asked (Put path key value) = option_map (Changing path) (put_spelled key val
 job_asked (Del path key) = option_map (Changing path) (del_spelled key)
 job_asked (Swap path key old new) = option_map (Changing path) (swap_spelled key old new)
 job_asked (Pairs path texts) = pairing_of path texts
+job_asked (Convert path new version) = option_map (Converting path new) (version_of version)
 
 -- the job that the words of a command line name
 abbrev pub job_named : List (List ℕ) → Option Named
@@ -317,3 +349,4 @@ command_of (Put path key value) = codes "put"
 command_of (Del path key) = codes "del"
 command_of (Swap path key old new) = codes "swap"
 command_of (Pairs path texts) = codes "pairs"
+command_of (Convert path new version) = codes "convert"

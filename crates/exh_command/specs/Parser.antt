@@ -8,7 +8,7 @@ use Rattle.clap.specs.declared.builder.command.Command.TheViews.{out-Command}
 use Rattle.clap.specs.declared.parser.matches.ArgMatches.{ArgMatches}
 use Rattle.clap.specs.declared.parser.matches.Found.{Found}
 use Rattle.clap.specs.declared.error.kind.ErrorKind.TheVariants.{DisplayVersion}
-use Rattle.exh_command.specs.Job.{Asked, Check, Del, Dump, Get, Load, Pairs, PairsTexts, Put, Serve, Storm, StormTexts, Swap, asked_by, callers_name, calls_name, cap_name, command_of, copies_name, into_name, keyer_name, long_name, open_name, save_name, wards_name}
+use Rattle.exh_command.specs.Job.{Asked, Check, Convert, Del, Dump, Get, Load, Pairs, PairsTexts, Put, Serve, Storm, StormTexts, Swap, asked_by, callers_name, calls_name, cap_name, command_of, copies_name, into_name, keyer_name, long_name, open_name, save_name, version_name, wards_name}
 use Rattle.exh_command.specs.Words.{flag_set}
 
 -- ---- arguments
@@ -85,6 +85,10 @@ about_path_with name options = record (new_shape name) { rules = path_rule ∷ m
 abbrev pub about_path_flagged : List ℕ → List (List ℕ) → Shape
 about_path_flagged name flags = record (new_shape name) { rules = path_rule ∷ map flag_rule flags }
 
+-- a command about a path and a new one, with such options
+abbrev pub about_two_paths_with : List ℕ → List (List ℕ) → Shape
+about_two_paths_with name options = record (new_shape name) { rules = path_rule ∷ word_rule new_id ∷ map option_rule options }
+
 -- a command without subcommands
 abbrev pub only : Shape → App
 only command = record { top = command; subs = [] }
@@ -126,6 +130,7 @@ HasValues (Put path key value) rows = (first_of path_id rows ≡ Some path) × (
 HasValues (Del path key) rows = (first_of path_id rows ≡ Some path) × (first_of key_id rows ≡ Some key)
 HasValues (Swap path key old new) rows = (first_of path_id rows ≡ Some path) × (first_of key_id rows ≡ Some key) × (first_of old_id rows ≡ Some old) × (first_of new_id rows ≡ Some new)
 HasValues (Pairs path texts) rows = (first_of path_id rows ≡ Some path) × HasPairsTexts texts rows
+HasValues (Convert path new version) rows = (first_of path_id rows ≡ Some path) × (first_of new_id rows ≡ Some new) × (first_of version_name rows ≡ version)
 
 -- the parser meets a command, and its values
 pub record Meets (parser : App) (words : List (List ℕ)) (asked : Asked) : Type 0 where

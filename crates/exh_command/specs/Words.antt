@@ -1,5 +1,5 @@
 -- The words behind a command: options with their values, and paths.
-use Rattle.std.specs.Prelude.{◌&&◌, ◌==◌, ◌++◌, ℕ, Bool, false, true, not, List, [], ◌∷◌, fold, find, length, nat_lt, Option, Some, None, option_map, codes, if◌then◌else◌}
+use Rattle.std.specs.Prelude.{◌&&◌, ◌==◌, ◌++◌, ℕ, Bool, false, not, List, [], ◌∷◌, fold, find, length, nat_lt, Option, Some, None, option_map, codes, if◌then◌else◌}
 use Rattle.std.specs.List.{list_any}
 use Rattle.std.specs.Str.{bytes_eq, chars}
 use Rattle.clap.specs.Lexer.{long_of}
@@ -113,25 +113,38 @@ abbrev pub used_by : List ℕ → Option (List ℕ) → List Use → Reading
 used_by name None uses = Wanting name uses
 used_by name (Some value) uses = with_use name value uses
 
--- ---- a path among them
+-- ---- places among them
 
 abbrev pub path_name : List ℕ
 path_name = codes "PATH"
 
-abbrev pub gives_path : List Use → Bool
-gives_path uses = list_any (is_use_of path_name) uses
+abbrev pub new_path_name : List ℕ
+new_path_name = codes "NEW"
 
-module _ (takes_path : Bool) where
-  -- a path is taken, and isn't there yet
-  abbrev pub wants_path : List Use → Bool
-  wants_path uses = takes_path && not (gives_path uses)
+-- a value is given to the name
+abbrev pub gives : List Use → List ℕ → Bool
+gives uses name = list_any (is_use_of name) uses
 
-  -- a word that is no option is the path
-  abbrev pub after_path : (List Use → Reading) → List ℕ → List Use → Reading
-  after_path read word uses = if wants_path uses then read (uses ++ record { name = path_name; value = word } ∷ []) else Wrong
+-- the first place that has no word yet
+abbrev pub next_place : List (List ℕ) → List Use → Option (List ℕ)
+next_place places uses = find (λ place. not (gives uses place)) places
+
+-- a word that is no option stands at the next place
+abbrev pub placed_at : (List Use → Reading) → List ℕ → List Use → Option (List ℕ) → Reading
+placed_at read word uses None = Wrong
+placed_at read word uses (Some place) = read (uses ++ record { name = place; value = word } ∷ [])
+
+-- each place has a word
+abbrev pub whole_at : List Use → Option (List ℕ) → Option (List Use)
+whole_at uses None = Some uses
+whole_at uses (Some place) = None
+
+module _ (places : List (List ℕ)) where
+  abbrev pub after_place : (List Use → Reading) → List ℕ → List Use → Reading
+  after_place read word uses = placed_at read word uses (next_place places uses)
 
   abbrev pub whole : List Use → Option (List Use)
-  whole uses = if wants_path uses then None else Some uses
+  whole uses = whole_at uses (next_place places uses)
 
   -- the uses, where the words may end so
   abbrev pub uses_read : Reading → Option (List Use)
@@ -164,26 +177,30 @@ module _ (names flags : List (List ℕ)) where
       if is_named names long.0 then used_by long.0 long.1 uses
       else (if is_named flags long.0 then flagged_by long.0 long.1 uses else Wrong)
 
-module _ (takes_path : Bool) (names flags : List (List ℕ)) where
+module _ (places names flags : List (List ℕ)) where
   abbrev pub after_word : Reading → List ℕ → Reading
   after_word (Between uses) word =
       if ends_options word then Ended uses
-      else (if is_option word then after_option names flags (long_of word) uses else after_path takes_path Between word uses)
+      else (if is_option word then after_option names flags (long_of word) uses else after_place places Between word uses)
   after_word (Wanting name uses) word = if is_option word then Wrong else with_use name word uses
-  after_word (Ended uses) word = after_path takes_path Ended word uses
+  after_word (Ended uses) word = after_place places Ended word uses
   after_word Wrong word = Wrong
 
   abbrev pub uses_taken : List (List ℕ) → Option (List Use)
-  uses_taken words = uses_read takes_path (fold after_word (Between []) words)
+  uses_taken words = uses_read places (fold after_word (Between []) words)
 
 -- the options that the words use, each of these names at most once, in any order; `--` may stand behind them
 abbrev pub uses_named : List (List ℕ) → List (List ℕ) → Option (List Use)
-uses_named names = uses_taken false names []
+uses_named names = uses_taken [] names []
 
 -- the same, and a path, before them, between them, or behind them and `--`
 abbrev pub uses_and_path : List (List ℕ) → List (List ℕ) → Option (List Use)
-uses_and_path names = uses_taken true names []
+uses_and_path names = uses_taken (path_name ∷ []) names []
 
 -- the flags that the words use, each of these at most once, in any order, and a path, as among options
 abbrev pub flags_and_path : List (List ℕ) → List (List ℕ) → Option (List Use)
-flags_and_path = uses_taken true []
+flags_and_path = uses_taken (path_name ∷ []) []
+
+-- the options that the words use, as among options, and a path and a new one behind it
+abbrev pub uses_and_two_paths : List (List ℕ) → List (List ℕ) → Option (List Use)
+uses_and_two_paths names = uses_taken (path_name ∷ new_path_name ∷ []) names []

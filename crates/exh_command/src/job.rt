@@ -2,16 +2,17 @@
 ghost use Rattle.std.specs.Prelude.{◌≡◌, ◌<◌, ◌≤◌, ◌^◌, ℕ, Bool, List, Some, None, map, option_and_then, option_map, IfOk, IfErr, IfSome, IsSome};
 ghost use Rattle.clap.specs.Words.{first_value, found_of, one_text};
 ghost use Rattle.exh_command.specs.CommandFault.{IsWrong, TellsVersion};
-ghost use Rattle.exh_command.specs.Job.{AskForVersion, Asked, Del, Get, IsWithinLimits, Load, Pairs, Put, Storm, Swap, del_spelled, job_asked, job_named, key_spelled, keyer_given, keyer_name, named_of, number_given, number_of, pairing_of, put_spelled, storm_of, swap_spelled, value_spelled, way_of};
+ghost use Rattle.exh_command.specs.Job.{AskForVersion, Asked, Convert, Del, Get, IsWithinLimits, Load, Pairs, Put, Storm, Swap, del_spelled, job_asked, job_named, key_spelled, keyer_given, keyer_name, named_of, number_given, number_of, pairing_of, put_spelled, storm_of, swap_spelled, value_spelled, version_name, version_of, way_of};
 ghost use Rattle.exh_command.specs.Parser.{HasFlags, IsJobMet, IsSomeJobMet, flag_text, key_id, new_id, old_id, pairs_texts_of, path_id, texts_of, value_id};
 ghost use Rattle.exh_settings.specs.StormConfig.{IsStormConfig};
 
 use crate::fault::CliFault;
 use crate::load_way::LoadWay;
+use crate::page_file_version::PageFileVersion;
 use crate::parser::{
-    CALLERS, CALLS, CAP, CHECK, COPIES, DEL, DUMP, GET, INTO, KEY, KEYER, LOAD, LONG, NEW, OLD,
-    OPEN, PAIRS, PATH, PUT, SAVE, SERVE, STORM, SWAP, VALUE, WARDS, parser, wrong_flags,
-    wrong_value,
+    CALLERS, CALLS, CAP, CHECK, CONVERT, COPIES, DEL, DUMP, GET, INTO, KEY, KEYER, LOAD, LONG, NEW,
+    OLD, OPEN, PAIRS, PATH, PUT, SAVE, SERVE, STORM, SWAP, VALUE, VERSION, WARDS, parser,
+    wrong_flags, wrong_value,
 };
 use clap::ArgMatches;
 use exh_calls::Call;
@@ -66,6 +67,12 @@ pub enum Job<'w> {
         ward_bits: Option<u8>,
         keyer: Option<AnyKeyer>,
     },
+    /// Write the page file of a path at a new path, as one of this version.
+    Convert {
+        path: &'w str,
+        new: &'w str,
+        version: PageFileVersion,
+    },
 }
 
 /// The job that the words of a command line name, of which the first is the program's name.
@@ -73,8 +80,8 @@ pub enum Job<'w> {
 /// # Errors
 ///
 /// `CliFault::Wrong` only where the words name no job, as in a call for help, or for the version,
-/// which its text then tells; a number that is none, or out of range, a key or value that is none, and both flags of
-/// `load` are such words too.
+/// which its text then tells; a number that is none, or out of range, a key or value that is none, a version that
+/// `convert` doesn't write, and both flags of `load` are such words too.
 /// `CliFault::Memory` may come at any words.
 pub fn job_of<'w, S: AsStr>(alloc: Global, words: &'w [S]) -> Result<Job<'w>, CliFault>
     ensures named { IfOk result (λ job. job_named (map S.text words.now) ≡ Some (named_of job)) }
@@ -112,6 +119,7 @@ fn job_met<'w>(alloc: Global, matches: &ArgMatches<'w>) -> Result<Job<'w>, CliFa
         DEL => del_job(alloc, own),
         SWAP => swap_job(alloc, own),
         PAIRS => pairs_job(alloc, own),
+        CONVERT => convert_job(alloc, own),
         _ => unreachable!(),
     }
 }
@@ -381,6 +389,46 @@ fn given_keyer(own: &ArgMatches<'_>) -> Option<Option<AnyKeyer>>
         return Some(None);
     };
     Some(Some(keyer_named(word.as_bytes())?))
+}
+
+// The conversion of the file of the path into one at the new path, of the version that was given.
+fn convert_job<'w>(alloc: Global, own: &ArgMatches<'w>) -> Result<Job<'w>, CliFault>
+    requires path { IsSome (first_value (found_of own.now) path_id) }
+    requires new { IsSome (first_value (found_of own.now) new_id) }
+    ensures named { IfOk result (λ job. (path new : List ℕ) → Some path ≡ first_value (found_of own.now) path_id → Some new ≡ first_value (found_of own.now) new_id
+        → job_asked (Convert path new (first_value (found_of own.now) version_name)) ≡ Some (named_of job)) }
+    ensures limits { IfOk result IsWithinLimits }
+    ensures wrong { IfErr result (λ fault. IsWrong fault → (path new : List ℕ) → job_asked (Convert path new (first_value (found_of own.now) version_name)) ≡ None) }
+{
+    match version_in(own) {
+        Some(version) => Ok(Job::Convert {
+            path: path_in(own),
+            new: new_path_in(own),
+            version,
+        }),
+        None => Err(CliFault::Wrong(wrong_value(alloc, "`convert --version` takes 2 or 3")?)),
+    }
+}
+
+// The new path that `convert` was given.
+fn new_path_in<'w>(own: &ArgMatches<'w>) -> &'w str
+    requires { IsSome (first_value (found_of own.now) new_id) }
+    ensures { Some result.now ≡ first_value (found_of own.now) new_id }
+{
+    let Some(path) = own.get_str(NEW) else {
+        unreachable!()
+    };
+    path
+}
+
+// The version that was given, or the third, where none was.
+fn version_in(own: &ArgMatches<'_>) -> Option<PageFileVersion>
+    ensures { result ≡ version_of (first_value (found_of own.now) version_name) }
+{
+    let Some(word) = own.get_str(VERSION) else {
+        return Some(PageFileVersion::Third);
+    };
+    PageFileVersion::numbered(parse_u32(word.as_bytes())?)
 }
 
 // The storm of the settings that were given.

@@ -4,9 +4,11 @@
 pub use fault::CliFault;
 pub use job::{Job, job_of};
 pub use load_way::LoadWay;
+pub use page_file_version::PageFileVersion;
 pub use parser::not_text;
 
 mod fault;
 mod job;
 mod load_way;
+mod page_file_version;
 mod parser;

@@ -1,9 +1,9 @@
 //! The parser of the command line, with the texts that a stranger reads.
 ghost use Rattle.std.specs.Prelude.{◌≡◌, IfOk, codes, false};
 ghost use Rattle.clap.specs.Words.{Shape, app_of, kind_of, new_app, rule_of, with_subcommand};
-ghost use Rattle.exh_command.specs.Job.{load_flags, pairs_names, serve_names, storm_names};
+ghost use Rattle.exh_command.specs.Job.{convert_names, load_flags, pairs_names, serve_names, storm_names};
 ghost use Rattle.exh_command.specs.Program.{bare_program};
-ghost use Rattle.exh_command.specs.Parser.{HasOwnArgs, ReadsJobs, about_key, about_path, about_path_flagged, about_path_with, about_two_values, about_value, flag_rule, key_rule, only, option_rule, path_rule, with_options, word_rule};
+ghost use Rattle.exh_command.specs.Parser.{HasOwnArgs, ReadsJobs, about_key, about_path, about_path_flagged, about_path_with, about_two_paths_with, about_two_values, about_value, flag_rule, key_rule, only, option_rule, path_rule, with_options, word_rule};
 
 use clap::error::{Error, ErrorKind};
 use clap::{Arg, ArgAction, Command};
@@ -39,6 +39,9 @@ pub(crate) const SWAP: &str = "swap";
 /// The command that prints pairs as the text that `load` takes.
 pub(crate) const PAIRS: &str = "pairs";
 
+/// The command that writes a page file as one of a version that is named.
+pub(crate) const CONVERT: &str = "convert";
+
 /// The flag of `load` of a text of any length.
 pub(crate) const LONG: &str = "long";
 
@@ -57,7 +60,7 @@ pub(crate) const VALUE: &str = "VALUE";
 /// What help calls the value that a key must have.
 pub(crate) const OLD: &str = "OLD";
 
-/// What help calls the value that a key is given in its place.
+/// What help calls the value that a key is given in its place, and the path of a new page file.
 pub(crate) const NEW: &str = "NEW";
 
 /// The option of `serve` that names the page file to open.
@@ -84,11 +87,14 @@ pub(crate) const COPIES: &str = "copies";
 /// The option of `pairs` that names a keyer.
 pub(crate) const KEYER: &str = "keyer";
 
+/// The option of `convert` that names the version of the new page file.
+pub(crate) const VERSION: &str = "version";
+
 // What help calls a number.
 const NUMBER: &str = "N";
 
 // The program's own, which says nothing of the formats'.
-const VERSION: &str = "0.1.0";
+const PROGRAM_VERSION: &str = "0.1.0";
 
 const USAGE: &str = "exhash serve [--open PATH] [--save PATH] < SCRIPT
        exhash check PATH
@@ -99,6 +105,7 @@ const USAGE: &str = "exhash serve [--open PATH] [--save PATH] < SCRIPT
        exhash del PATH KEY
        exhash swap PATH KEY OLD NEW
        exhash pairs PATH [--cap N] [--wards N] [--keyer K]
+       exhash convert PATH NEW [--version N]
        exhash storm [--callers N] [--calls N] [--cap N] [--wards N]
          [--copies N]
 
@@ -109,6 +116,7 @@ Examples:
   ./exhash load my-pairs.exh < examples/three-pairs-loaded.script
   ./exhash get examples/three-pairs.files/three-pairs.exh @
   ./exhash put my-pairs.exh @ y
+  ./exhash convert my-pairs.exh new-pairs.exh
   ./exhash storm --callers 4 --calls 100";
 
 const SERVE_USAGE: &str = "exhash serve [--open PATH] [--save PATH] < SCRIPT
@@ -390,6 +398,30 @@ Exit status: 0 where the file is legal; 1 where it is refused or the run breaks
 off; 2 where the command line is wrong, or asks for help.
 The formats are in docs/FORMATS.md.";
 
+const CONVERT_USAGE: &str = "exhash convert PATH NEW [--version N]
+
+Paths that begin with a dash stand behind `--`, as in convert -- -x -y.
+
+Example:
+  ./exhash convert examples/three-pairs.files/three-pairs.exh new-pairs.exh";
+
+const CONVERTED: &str = "\
+It writes the page file of PATH, of any version, as one of version N at NEW. The
+wards, the pages, the pairs and the table are the same, and PATH stays as it is.
+At NEW there must be nothing or an empty file: a NEW that isn't empty is left as
+it is, and so is an empty one where PATH is refused. The versions:
+  2  the entries of the table stand in blocks behind the pages
+  3  they stand in cells before the pages, each of which keeps its place;
+     programs that know only the versions before refuse it with 37
+Behind `convert` --version is that of NEW; `exhash --version` tells the
+program's. Nothing is printed where NEW is written; why it isn't is said on
+standard error. Other files at PATH are refused as by `exhash check`; where
+memory ends `refused 10` is printed.
+
+Exit status: 0 where NEW is written; 1 where it isn't, or PATH is refused; 2
+where the command line is wrong, or asks for help.
+The formats are in docs/FORMATS.md.";
+
 const STORM_USAGE: &str = "exhash storm [--callers N] [--calls N] [--cap N] [--wards N]
          [--copies N]
 
@@ -412,27 +444,30 @@ The formats are in docs/FORMATS.md.";
 
 // What holds of every command.
 const ENDS: &str = "\
-Only an empty file, or one that begins as a page file, is saved over. It is
-there whole until the new one is whole and on the disk, and where that fails it
-stays. The new one is another file: it has the old one's mode and, where the
-system allows it, owner and group, but not its access lists, its extended
-attributes and its hard links; its group may do what the mode says.
+Only an empty file, or one that begins as a page file, is saved over; by convert
+only an empty one. It is there whole until the new one is whole and on the disk,
+and where that fails it stays. The new one is another file: it has the old one's
+mode and, where the system allows it, owner and group, but not its access lists,
+its extended attributes and its hard links; its group may do what the mode says.
 One run at a time saves to a file. put, del and swap lock it from before they
-read it until it is saved, load and serve to save it; a file that another
-process has locked isn't saved to, nor is one on a file system without locks,
-and no run waits. Who may read a file may lock it, and so keep others from
-saving to it. Of two runs that opened one file the later to save is refused, so
-that nothing that was saved is lost. Programs that write without these locks are
-noticed only if they are done before the save.
-Page files of the first version and of the second are read, and told alike. What
-is saved is of the second, which programs that know the first alone refuse with
-37. A key for which a page of the first had no room for good may find some.
+read it until it is saved, load, serve and convert to save it; a file that
+another process has locked isn't saved to, nor is one on a file system without
+locks, and no run waits. Who may read a file may lock it, and so keep others
+from saving to it. Of two runs that opened one file the later to save is
+refused, so that nothing that was saved is lost. Programs that write without
+these locks are noticed only if they are done before the save.
+Page files of the first version, of the second and of the third are read, and
+told alike. One of the third that was opened, and is saved at the same path, is
+saved as one of the third; what is saved otherwise is of the second, but for
+what convert writes. Programs that know the first two alone refuse the third
+with 37, and those that know the first alone the second too. A key for which a
+page of the first had no room for good may find some.
 
 Exit status: 0 where the run is done, also with refused lines, or the file is
-legal, or the key is there or changed as is asked, or all is settled; 1 where it
-is refused or the run breaks off; 2 where the command line is wrong, or asks for
-help or for the version; 3 where a get finds no key, or a put, del or swap
-leaves the file as it is.
+legal, or the key is there or changed as is asked, or the new file is written,
+or all is settled; 1 where it is refused or the run breaks off; 2 where the
+command line is wrong, or asks for help or for the version; 3 where a get finds
+no key, or a put, del or swap leaves the file as it is.
 `exhash serve --help` has the lines of a script, `exhash check --help` what is
 said of a file, docs/FORMATS.md the formats.";
 
@@ -491,7 +526,8 @@ pub(crate) fn parser<'a>(alloc: Global) -> Result<Command<'a>, AllocError>
         SWAPPED,
     );
     let swapping = with_command(deleting, swap)?;
-    with_command(swapping, pairs(alloc))
+    let pairing = with_command(swapping, pairs(alloc))?;
+    with_command(pairing, convert(alloc))
 }
 
 // A command with one more below it, if that was made. It takes both, so that where one isn't made its caller has nothing
@@ -512,7 +548,7 @@ fn bare_program<'a>(alloc: Global) -> Result<Command<'a>, AllocError>
 {
     Command::new(alloc, "exhash")
         .about("An extendible hash file whose directory is copied to several nodes")
-        .version(VERSION)
+        .version(PROGRAM_VERSION)
         .after_help(ENDS)
         .override_usage(USAGE)
         .subcommand_required(true)
@@ -528,7 +564,7 @@ fn serve<'a>(alloc: Global) -> Result<Command<'a>, AllocError>
     bare_command(
         alloc,
         SERVE,
-        "Answers the script on standard input, line by line, on standard output",
+        "Answers a script on standard input, line by line, on standard output",
         SERVE_USAGE,
         LINES,
     )
@@ -630,6 +666,27 @@ fn pairs<'a>(alloc: Global) -> Result<Command<'a>, AllocError>
         KEYER,
         "K",
         "Its keyer, sha or plain [default: the file's]",
+    ))
+}
+
+// The parser of `convert`.
+fn convert<'a>(alloc: Global) -> Result<Command<'a>, AllocError>
+    ensures own { IfOk result HasOwnArgs }
+    ensures is { IfOk result (λ command. app_of command ≡ only (about_two_paths_with (codes "convert") convert_names)) }
+{
+    path_command(
+        alloc,
+        CONVERT,
+        "Writes a page file as one of another version",
+        CONVERT_USAGE,
+        CONVERTED,
+    )?
+    .arg(word(alloc, NEW))?
+    .arg(option(
+        alloc,
+        VERSION,
+        NUMBER,
+        "The version of the new page file, 2 or 3 [default: 3]",
     ))
 }
 

@@ -1,7 +1,7 @@
 use Rattle.std.specs.Prelude.{IsSome}
 use Rattle.std.proofs.Common.{inl, inr, refl, subst, ◌∙◌}
 use Rattle.std.proofs.lemmas.Result.{IfErr-weaker, IfOk-weaker}
-use Rattle.exh_command.proofs.ParserLemmas.{checks, dels, dumps, gets, is_command, key_given, job_is, loads, no_options, own_is, own_of, pairs, path_given, puts, serves, some_met, storms, swaps}
+use Rattle.exh_command.proofs.ParserLemmas.{checks, converts, dels, dumps, gets, is_command, key_given, job_is, loads, no_options, own_is, own_of, pairs, path_given, puts, serves, some_met, storms, swaps}
 use Rattle.exh_command.proofs.job.job_met.Goals as goal
 
 pub unreachable-requires : goal.unreachable-requires
@@ -57,7 +57,7 @@ returns-in-storm-clause-wrong c =
 pub unreachable-requires-in_default-command : goal.unreachable-requires-in_default-command
 unreachable-requires-in_default-command c =
     let own = own_is c.args.matches.now c.in-Some.command.now c.in-Some.own.now c.requires.0 c.in-Some.ensures.name c.in-Some.ensures.rows c.requires.1 in
-    is_command c.requires.0 c.in-Some.command.now c.in-Some.own.now own c.in_default-command.not-serve c.in_default-command.not-check c.in_default-command.not-dump c.in_default-command.not-load c.in_default-command.not-storm c.in_default-command.not-get c.in_default-command.not-put c.in_default-command.not-del c.in_default-command.not-swap c.in_default-command.not-pairs
+    is_command c.requires.0 c.in-Some.command.now c.in-Some.own.now own c.in_default-command.not-serve c.in_default-command.not-check c.in_default-command.not-dump c.in_default-command.not-load c.in_default-command.not-storm c.in_default-command.not-get c.in_default-command.not-put c.in_default-command.not-del c.in_default-command.not-swap c.in_default-command.not-pairs c.in_default-command.not-convert
 
 pub get_job-requires : goal.get_job-requires
 get_job-requires c =
@@ -147,6 +147,23 @@ returns-in-pairs-clause-wrong c =
     let given = pairs asked c.in-Some.own.now (own_of c.args.matches.now c.in-Some.command.now c.in-Some.own.now _ c.in-Some.ensures.name c.in-Some.ensures.rows c.in-pairs.is asked met) in
     job_is asked _ given.asked_is ∙ none wrong given.path) c.pairs_job.ensures.wrong
 
+pub convert_job-requires : goal.convert_job-requires
+convert_job-requires c =
+    let given = converts c.requires.0 c.in-Some.own.now (own_of c.args.matches.now c.in-Some.command.now c.in-Some.own.now _ c.in-Some.ensures.name c.in-Some.ensures.rows c.in-convert.is c.requires.0 c.requires.1) in
+    record { path = subst IsSome given.path_is refl; new = subst IsSome given.new_is refl }
+
+pub returns-in-convert-clause-named : goal.returns-in-convert-clause-named
+returns-in-convert-clause-named c =
+    IfOk-weaker c.convert_job.result _ _ (λ job is asked met.
+    let given = converts asked c.in-Some.own.now (own_of c.args.matches.now c.in-Some.command.now c.in-Some.own.now _ c.in-Some.ensures.name c.in-Some.ensures.rows c.in-convert.is asked met) in
+    job_is asked _ given.asked_is ∙ is given.path given.new given.path_is given.new_is) c.convert_job.ensures.named
+
+pub returns-in-convert-clause-wrong : goal.returns-in-convert-clause-wrong
+returns-in-convert-clause-wrong c =
+    IfErr-weaker c.convert_job.result _ _ (λ fault none wrong asked met.
+    let given = converts asked c.in-Some.own.now (own_of c.args.matches.now c.in-Some.command.now c.in-Some.own.now _ c.in-Some.ensures.name c.in-Some.ensures.rows c.in-convert.is asked met) in
+    job_is asked _ given.asked_is ∙ none wrong given.path given.new) c.convert_job.ensures.wrong
+
 pub returns-in-serve-clause-limits : goal.returns-in-serve-clause-limits
 returns-in-serve-clause-limits c = tt
 
@@ -185,3 +202,6 @@ returns-in-swap-clause-limits c = c.swap_job.ensures.limits
 
 pub returns-in-pairs-clause-limits : goal.returns-in-pairs-clause-limits
 returns-in-pairs-clause-limits c = c.pairs_job.ensures.limits
+
+pub returns-in-convert-clause-limits : goal.returns-in-convert-clause-limits
+returns-in-convert-clause-limits c = c.convert_job.ensures.limits

@@ -4,27 +4,27 @@ use Rattle.clap.specs.Words.{App, Shape, with_subcommand}
 use Rattle.exh_command.specs.Parser.{ReadsJobs, about_key, about_path, about_two_values, about_value}
 use Rattle.exh_command.specs.Program.{bare_program}
 use Rattle.exh_command.proofs.ParserLemmas.{program_reads}
-use Rattle.exh_command.proofs.TheProgram.{load, pairs, serve, storm}
+use Rattle.exh_command.proofs.TheProgram.{convert, load, pairs, serve, storm}
 use Rattle.exh_command.proofs.parser.parser.Goals as goal
 
 below : (command : Shape) {one other : App} → one ≡ other → with_subcommand one command ≡ with_subcommand other command
 below command same = ap (λ (app : App). with_subcommand app command) same
 
 -- the commands one behind the other
-stacked : {bare serving checking dumping loading storming getting putting deleting swapping whole : App} → bare ≡ bare_program → serving ≡ with_subcommand bare serve → checking ≡ with_subcommand serving (about_path (codes "check"))
+stacked : {bare serving checking dumping loading storming getting putting deleting swapping pairing whole : App} → bare ≡ bare_program → serving ≡ with_subcommand bare serve → checking ≡ with_subcommand serving (about_path (codes "check"))
     → dumping ≡ with_subcommand checking (about_path (codes "dump")) → loading ≡ with_subcommand dumping load → storming ≡ with_subcommand loading storm
     → getting ≡ with_subcommand storming (about_key (codes "get")) → putting ≡ with_subcommand getting (about_value (codes "put")) → deleting ≡ with_subcommand putting (about_key (codes "del"))
     → swapping ≡ with_subcommand deleting (about_two_values (codes "swap"))
-    → whole ≡ with_subcommand swapping pairs → ReadsJobs whole
-stacked is with_serve with_check with_dump with_load with_storm with_get with_put with_del with_swap with_pairs =
-    subst ReadsJobs (sym (with_pairs ∙ below pairs (with_swap ∙ below (about_two_values (codes "swap")) (with_del ∙ below (about_key (codes "del")) (with_put ∙ below (about_value (codes "put")) (with_get ∙ below (about_key (codes "get")) (with_storm ∙ below storm (with_load ∙ below load (with_dump ∙ below (about_path (codes "dump")) (with_check ∙ below (about_path (codes "check")) (with_serve ∙ below serve (is)))))))))))) program_reads
+    → pairing ≡ with_subcommand swapping pairs → whole ≡ with_subcommand pairing convert → ReadsJobs whole
+stacked is with_serve with_check with_dump with_load with_storm with_get with_put with_del with_swap with_pairs with_convert =
+    subst ReadsJobs (sym (with_convert ∙ below convert (with_pairs ∙ below pairs (with_swap ∙ below (about_two_values (codes "swap")) (with_del ∙ below (about_key (codes "del")) (with_put ∙ below (about_value (codes "put")) (with_get ∙ below (about_key (codes "get")) (with_storm ∙ below storm (with_load ∙ below load (with_dump ∙ below (about_path (codes "dump")) (with_check ∙ below (about_path (codes "check")) (with_serve ∙ below serve (is))))))))))))) program_reads
 
 pub returns : goal.returns
 returns c =
-    IfOk-weaker c.with_command-10.result _ _ (λ command whole. stacked c.in_ok-bare_program.ensures
+    IfOk-weaker c.with_command-11.result _ _ (λ command whole. stacked c.in_ok-bare_program.ensures
     (c.in_ok-serving.ensures serve c.serve.ensures.is) (c.in_ok-checking.ensures (about_path (codes "check")) c.path_command-check.ensures.is) (c.in_ok-dumping.ensures (about_path (codes "dump")) c.path_command-dump.ensures.is)
     (c.in_ok-loading.ensures load c.load.ensures.is) (c.in_ok-storming.ensures storm c.storm.ensures.is) (c.in_ok-getting.ensures (about_key (codes "get")) c.key_command-get.ensures.is)
-    (c.in_ok-putting.ensures (about_value (codes "put")) c.value_command-put.ensures.is) (c.in_ok-deleting.ensures (about_key (codes "del")) c.key_command-del.ensures.is) (c.in_ok-swapping.ensures (about_two_values (codes "swap")) c.swap_command-swap.ensures.is) whole) (c.with_command-10.ensures pairs c.pairs.ensures.is)
+    (c.in_ok-putting.ensures (about_value (codes "put")) c.value_command-put.ensures.is) (c.in_ok-deleting.ensures (about_key (codes "del")) c.key_command-del.ensures.is) (c.in_ok-swapping.ensures (about_two_values (codes "swap")) c.swap_command-swap.ensures.is) (c.in_ok-pairing.ensures pairs c.pairs.ensures.is) whole) (c.with_command-11.ensures convert c.convert.ensures.is)
 
 pub with_command-requires : goal.with_command-requires
 with_command-requires c = c.serve.ensures.own
@@ -56,6 +56,9 @@ with_command-requires-9 c = c.swap_command-swap.ensures.own
 pub with_command-requires-10 : goal.with_command-requires-10
 with_command-requires-10 c = c.pairs.ensures.own
 
+pub with_command-requires-11 : goal.with_command-requires-11
+with_command-requires-11 c = c.convert.ensures.own
+
 pub returns-in_err-bare_program : goal.returns-in_err-bare_program
 returns-in_err-bare_program c = IfOk-from_err c.from_residual.result _ c.from_residual.ensures.0
 
@@ -85,6 +88,9 @@ returns-in_err-deleting c = IfOk-from_err c.from_residual-in_err-deleting.result
 
 pub returns-in_err-swapping : goal.returns-in_err-swapping
 returns-in_err-swapping c = IfOk-from_err c.from_residual-in_err-swapping.result _ c.from_residual-in_err-swapping.ensures.0
+
+pub returns-in_err-pairing : goal.returns-in_err-pairing
+returns-in_err-pairing c = IfOk-from_err c.from_residual-in_err-pairing.result _ c.from_residual-in_err-pairing.ensures.0
 
 pub path_command-check-requires : goal.path_command-check-requires
 path_command-check-requires c = tt
