@@ -11,7 +11,7 @@ mod service;
 
 use crate::service::{NAMES, serve};
 use anyhow::Context;
-use exh_file::{Opened, open};
+use exh_file::{Draft, Opened, open};
 use exh_frames::FileStore;
 use exh_path::{OpenedFile, SystemDisk, open_above, save_at};
 use exh_stream::{Console, Meter, Unit, Work};
@@ -53,7 +53,8 @@ fn save(
     };
     let meter = Meter::new(Console::new(rt, rt.stderr()), work);
     let mut disk = SystemDisk::new(rt);
-    let (saved, _) = save_at(rt.alloc(), &mut disk, path, Some(seen), opened, &meter);
+    let draft = Draft::plain(opened);
+    let (saved, _) = save_at(rt.alloc(), &mut disk, path, Some(seen), draft, &meter);
     meter.clear();
     saved?;
     println!(rt; "saved {path}")?;

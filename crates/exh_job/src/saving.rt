@@ -8,6 +8,7 @@ use crate::size_limit::above_limit;
 use crate::status::Status;
 use crate::stores::FileWards;
 use crate::watch::saving_meter;
+use exh_file::Draft;
 use exh_path::{DiskFault, OpenedFile, SystemDisk, look_at, save_at};
 use exh_stream::Output;
 use std::io;
@@ -42,7 +43,8 @@ pub fn save_at_path(
     }
     let meter = saving_meter(rt);
     let mut disk = SystemDisk::new(rt);
-    let (saved, _wards) = save_at(rt.alloc(), &mut disk, path, seen, wards, &meter);
+    let draft = Draft::plain(wards);
+    let (saved, _draft) = save_at(rt.alloc(), &mut disk, path, seen, draft, &meter);
     meter.clear();
     match saved {
         Ok(saved) => {

@@ -1,8 +1,6 @@
-ghost use Rattle.exh_file.specs.Saved.{IsLeft, written_file};
-ghost use Rattle.exh_format.specs.FileVersion.{written_format};
-ghost use Rattle.exh_format.specs.PageFile.{file_bytes};
+ghost use Rattle.exh_file.specs.Draft.{IsDraftLeft, bytes_in};
 
-use exh_file::{Opened, SaveFault, write_file};
+use exh_file::{Draft, SaveFault};
 use exh_saving::{Source, SourceFault, Watch};
 use exh_stores::Pages;
 use exh_stream::{Meter, Terminal};
@@ -11,23 +9,24 @@ use std::io::Write;
 /// Wards that are to be saved as a page file.
 #[derive(Drop)]
 pub(crate) struct Wards<P: Pages + Drop> {
-    pub(crate) opened: Opened<P>,
+    pub(crate) draft: Draft<P>,
 }
 
 impl<P: Pages + Drop> Source for Wards<P> {
-    ghost leaves = { λ old new. IsLeft old.opened new.opened };
+    ghost leaves = { λ old new. IsDraftLeft old.draft new.draft };
 
-    ghost bytes = { λ wards. file_bytes written_format (written_file wards.opened) };
+    ghost bytes = { λ wards. bytes_in wards.draft };
 
     fn write_to<W: Write>(self, writer: &mut W) -> (Result<(), SourceFault>, Self) {
-        let Wards { mut opened } = self;
-        let written = match write_file(writer, &mut opened) {
+        let Wards { draft } = self;
+        let (written, draft) = draft.write_to(writer);
+        let written = match written {
             Ok(()) => Ok(()),
             Err(SaveFault::Write) => Err(SourceFault::Writer),
             Err(SaveFault::Memory) => Err(SourceFault::Memory),
             Err(SaveFault::Page) => Err(SourceFault::Source),
         };
-        (written, Wards { opened })
+        (written, Wards { draft })
     }
 }
 

@@ -1,11 +1,11 @@
 use Rattle.std.proofs.Common.{inl, inr}
-use Rattle.exh_file.specs.LeftLemmas.{left_as_it_was}
+use Rattle.exh_file.specs.LeftLemmas.{draft_as_it_was}
 use Rattle.exh_path.proofs.path.save_at.Goals as goal
 
 -- where nothing was written they are the same wards
 pub returns-clause-wards : goal.returns-clause-wards
 returns-clause-wards g c = elim c.save-saved.ensures.source [
-  | inl same ↦ rw same (left_as_it_was c.args.opened)
+  | inl same ↦ rw same (draft_as_it_was c.args.draft)
   | inr left ↦ left
 ]
 
