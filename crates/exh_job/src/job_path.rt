@@ -26,6 +26,7 @@ pub fn path_of<'w>(job: &Job<'w>) -> Option<JobPath<'w>>
         Job::Serve { save, .. } => at(*save),
         Job::Load { path, .. } => at(Some(*path)),
         Job::Change { path, .. } => at(Some(*path)),
+        Job::Convert { new, .. } => at(Some(*new)),
         Job::Check { .. }
         | Job::Dump { .. }
         | Job::Pairs { .. }
