@@ -1,7 +1,6 @@
 """What must have come up in the runs of the usual number of scripts, and how often."""
 
 from .grammar import FORMS
-from .to_come import HAS_PLACED
 
 LEAST = 100
 CALLS = ("get", "put", "del", "swap")
@@ -63,7 +62,7 @@ def wanted():
     refusals = [f"refused {number} of {word}" for word in words for number in (*REFUSALS.get(word, ()), 60)]
     of_scripts = [*lines, *refusals, *OUTCOMES, *PLACES, *COPIES, *SETTINGS, *REFUSED_SCRIPTS]
     of_files = [*FILES, *TEXTS, *CALLS_OVER_FILES, *DAMAGED_FILES, *GETS_OF_DAMAGED]
-    return [*of_scripts, *of_files, *(OF_PLACED if HAS_PLACED else ())]
+    return [*of_scripts, *of_files, *OF_PLACED]
 
 
 def printed_counts(met):

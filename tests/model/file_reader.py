@@ -31,7 +31,6 @@ from .page_reader import (
 from .placed_file import is_placed
 from .placed_reader import PlacedReader
 from .tables import Entry, Kind
-from .to_come import Reading
 from .version import CAP_LIMIT, CURRENT, FIRST, LIMIT, WARD_BITS_LIMIT
 
 IMAGE = 16
@@ -170,7 +169,7 @@ def version_of(content):
 
 def reader_of(content):
     """The reader of bytes, by the version that they name and that the commands read."""
-    return PlacedReader(content) if Reading.placed and is_placed(content) else Reader(content)
+    return PlacedReader(content) if is_placed(content) else Reader(content)
 
 
 def file_of(content):

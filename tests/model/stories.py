@@ -24,7 +24,6 @@ from .other_files import damaged, strange
 from .page_file import bytes_of_file, has_room
 from .placed_file import is_placed, placed_file, shuffled
 from .program import bytes_again, outcome_of
-from .to_come import HAS_PLACED
 from .version import CURRENT, FIRST, KEY_LIMIT, LIMIT, SCRIPT_LIMIT, VALUE_LIMIT
 from .writer import Writer
 
@@ -141,7 +140,7 @@ class Teller:
 
     def in_a_version(self, file):
         """The bytes of a file in a version that may have it; of version 3 its pages are born in any order."""
-        if HAS_PLACED and self.chance(40):
+        if self.chance(40):
             self.story.met["opened file of version 3"] += 1
             stamps = self.dice.randbytes(8), self.dice.randbytes(8)
             return placed_file(file, stamps, shuffled(self.dice, file))
@@ -173,7 +172,7 @@ class Teller:
                 self.story.met["pair dumped"] += sum(line.startswith("pair") for line in lines)
         if self.chance(50):
             self.pair_again(name)
-        if HAS_PLACED and self.chance(40):
+        if self.chance(40):
             self.convert(name)
         for _ in range(self.dice.randint(0, CALLS)):
             self.call_over(name)

@@ -297,11 +297,11 @@ It prints the value of the key, as a word of a script, and nothing where the
 file hasn't the key. KEY is 1 to 64 bytes: characters ! to ~, the first not #;
 or # and for each byte two digits of 0 to 9 and a to f.
 
-It reads the header, the table and the pages on the key's way, of a legal file
-one page, and nothing else of the file. Each block that it reads is tested, and
-refused as by `exhash check`; a page's way that doesn't lead to the key's page
-prints `refused 40`. Whether the file is legal and ends behind its table only
-`exhash check` finds out. PATH is a regular file.
+It reads the header, the table, in a file of version 3 the cells, and the pages
+on the key's way, of a legal file one page, and nothing else of the file. Each
+block that it reads is tested, and refused as by `exhash check`; a way that
+doesn't lead to the key's page prints `refused 40`. Whether the file is legal
+and has its right length only `exhash check` finds out. PATH is a regular file.
 
 Exit status: 0 where the key is there; 3 where it isn't; 1 where the file is
 refused or the run breaks off; 2 where the command line is wrong, or asks for

@@ -31,6 +31,10 @@ IsCount known count = IfSome known (λ bytes. count ≡ length bytes / BLOCK_LEN
 abbrev pub MayRead : Option (List ℕ) → Option (List ℕ) → ℕ → Type 0
 MayRead old new place = Appends old new [] ⊎ Appends old new (place ∷ [])
 
+-- whatever was read before the header's block, behind which nothing else was
+abbrev pub BehindHeader : Option (List ℕ) → (Option (List ℕ) → Type 0) → Type 0
+BehindHeader now P = (before : Option (List ℕ)) → Appends before now (0 ∷ []) → P before
+
 -- no block was read twice
 pub record ReadsOnce (old new : Option (List ℕ)) : Type 0 where
   pub places : List ℕ

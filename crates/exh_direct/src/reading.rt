@@ -1,17 +1,17 @@
-ghost use Rattle.std.specs.Prelude.{◌≡◌, ◌<◌, ◌≤◌, ◌^◌, ◌+◌, ◌*◌, ◌++◌, [], ◌∷◌, vec_len, IfOk, OnOk, IfErr};
+ghost use Rattle.std.specs.Prelude.{◌≡◌, ◌<◌, ◌≤◌, ◌^◌, ◌+◌, ◌*◌, ◌++◌, [], ◌∷◌, ℕ, List, Option, vec_len, IfOk, OnOk, IfErr};
 ghost use Rattle.std.specs.List.{sum};
 ghost use Rattle.std.specs.Option.{option_to_list};
 ghost use Rattle.std.specs.Io.KnownBytes.{Appends};
 ghost use Rattle.exh_keyer.specs.Pseudokey.{any_pseudokey};
 ghost use Rattle.exh_prefix.specs.Layout.{layout};
 ghost use Rattle.exh_prefix.specs.declared.prefix.TheConstants.{LIMIT};
-ghost use Rattle.exh_format.specs.HeaderImage.{IsKnownHeader};
+ghost use Rattle.exh_format.specs.HeaderImage.{IsHeaderImage, IsKnownHeader};
 ghost use Rattle.exh_direct.specs.TableSearch.{table_place};
 ghost use Rattle.exh_format.specs.FileVersion.{file_version, format_of};
 ghost use Rattle.exh_format.specs.TableImage.{AreRising, prefixes_of};
 ghost use Rattle.exh_format.specs.declared.table_block.TheConstants.{BLOCK_ENTRIES};
 ghost use Rattle.exh_format.specs.FileTests.{HeaderFails, PageFails, TableFails};
-ghost use Rattle.exh_direct.specs.KnownBlocks.{BlockFails, IsBlockAt, IsCount, IsCutOff, IsHeaderAt, IsPageBlock, IsTableBlock, MayRead};
+ghost use Rattle.exh_direct.specs.KnownBlocks.{BlockFails, IsBlockAt, IsCount, IsCutOff, IsPageBlock, IsTableBlock, MayRead};
 
 use crate::{Blocks, DirectFault};
 use exh_codec::{BLOCK_LEN, decode_page_of};
@@ -21,22 +21,15 @@ use exh_page::Page;
 use exh_prefix::{Prefix, Version};
 use std::alloc::Global;
 
-/// The version that the first of so many blocks says, and the header that the block has in it.
-pub(crate) fn read_header<B: Blocks>(
-    blocks: &mut B,
-    count: u64,
-) -> Result<(Version, Header), DirectFault>
-    requires { IsCount (B.known blocks.old) count }
-    ensures same_bytes { B.known blocks.new ≡ B.known blocks.old }
-    ensures may_read { MayRead (B.reads blocks.old) (B.reads blocks.new) 0 }
-    ensures one_read { OnOk result (Appends (B.reads blocks.old) (B.reads blocks.new) (0 ∷ [])) }
-    ensures ok { IfOk result (λ found. IsHeaderAt (file_version found.0) (B.known blocks.old) found.1) }
-    ensures err { IfErr result (BlockFails (λ block. HeaderFails (format_of block) block) (B.known blocks.old) 0) }
+/// The version that a header's block says, and the header that it has in it.
+///
+/// `File`: the first test of a header that the block fails.
+pub(crate) fn header_in(block: &[u8; BLOCK_LEN]) -> Result<(Version, Header), DirectFault>
+    ensures ok { IfOk result (λ found. IsHeaderImage (file_version found.0) found.1 block.now) }
+    ensures err { (known : Option (List ℕ)) → IsBlockAt known 0 block.now → IfErr result (BlockFails (λ block. HeaderFails (format_of block) block) known 0) }
 {
-    let mut block = [0; BLOCK_LEN];
-    read_block(blocks, count, 0, &mut block)?;
-    let version = version_in(&block);
-    match Header::from_block(version, &block) {
+    let version = version_in(block);
+    match Header::from_block(version, block) {
         Ok(header) => Ok((version, header)),
         Err(fault) => Err(DirectFault::File(fault)),
     }
@@ -107,6 +100,7 @@ pub fn read_block<B: Blocks>(
 ) -> Result<(), DirectFault>
     requires { IsCount (B.known blocks.old) count }
     ensures same_bytes { B.known blocks.new ≡ B.known blocks.old }
+    ensures same_count { B.whole blocks.new ≡ B.whole blocks.old }
     ensures may_read { MayRead (B.reads blocks.old) (B.reads blocks.new) place }
     ensures one_read { OnOk result (Appends (B.reads blocks.old) (B.reads blocks.new) (place ∷ [])) }
     ensures block { OnOk result (IsBlockAt (B.known blocks.old) place block.new) }

@@ -50,8 +50,8 @@ abbrev pub in_written : Version → List ℕ → List ℕ
 in_written First bytes = renumbered (number_of_version WRITTEN) bytes
 in_written Second bytes = bytes
 
--- Where these wards are what opening some bytes gives, in any version, their page file is the file that the bytes say. Of a
--- version before 3 it is these bytes again, in the version that is written; of version 3 no bytes of a file are.
+-- Where these wards are what opening some bytes gives, their page file is the file that the bytes say, in whichever version.
+-- Where that is 1 or 2 its bytes are these again, in the version that is written; those of version 3 stand otherwise.
 pub record IsWrittenAgain (opened : OpenedState) : Type 0 where
   pub same : (bytes : List ℕ) (opens : OpensAs bytes opened) → AreBytes bytes → written_file opened ≡ opens.file
   pub again : (bytes : List ℕ) → AreBytes bytes → OpensAs bytes opened → (SaysPlaced bytes → ⊥) → file_bytes written_format (written_file opened) ≡ in_written (version_of bytes) bytes

@@ -2,9 +2,9 @@
 use Rattle.std.specs.Prelude.{◌≡◌, ◌⊎◌, ℕ, Bool, List, ◌++◌, Option, None, Some, Result, Ok, Err, IfErr, IfOk}
 use Rattle.exh_text.specs.Contents.{on_line}
 use Rattle.exh_text.specs.Printing.{printed, refused_text}
-use Rattle.exh_direct.specs.DirectAnswer.{Finds, Refuses}
 use Rattle.exh_direct.specs.DirectFault.{direct_fault_number, direct_fault_place}
 use Rattle.exh_direct.specs.declared.direct_fault.DirectFault.{DirectFault}
+use Rattle.exh_walked.specs.AnyAnswer.{FindsAny, IsOfLegal, RefusesAny}
 use Rattle.exh_report.specs.Finding.{place_words}
 use Rattle.exh_job.specs.LastLine.{PrintsLine, TellsLine, memory_line}
 use Rattle.exh_job.specs.declared.status.Status.{Status}
@@ -30,10 +30,11 @@ module _ (old new : Option (List ℕ)) (failed : Bool) where
   EndsAs (Ok (Some value)) status = EndsValue value status
   EndsAs (Err fault) status = (PrintsLine old new failed (get_refusal_line fault) ⊎ PrintsLine old new failed memory_line) × (status ≡ Refused)
 
-  -- it is what the blocks, so many whole ones, have at the key
+  -- it is what the blocks, so many whole ones, have at the key in the version that they say, of a legal file what its map has
   pub record EndsGet (known : Option (List ℕ)) (whole : ℕ) (reads : Option (List ℕ)) (key : List ℕ) (status : Status) : Type 0 where
     pub outcome : Result (Option (List ℕ)) DirectFault
     pub after : Option (List ℕ)
-    pub found : IfOk outcome (Finds known whole key reads after)
-    pub refused : IfErr outcome (Refuses known whole key reads after)
+    pub found : IfOk outcome (FindsAny known whole key reads after)
+    pub refused : IfErr outcome (RefusesAny known whole key reads after)
+    pub legal : IsOfLegal known key reads after outcome
     pub printed : EndsAs outcome status

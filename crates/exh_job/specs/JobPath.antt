@@ -11,7 +11,8 @@ abbrev pub at : Option (Bor (List ℕ)) → Option JobPath
 at None = None
 at (Some path) = Some (record { path = path })
 
--- the path of `--save`, and that of `load`; of a script never the one that is opened; a put, a del and a swap save where they read, a conversion at its new path
+-- the path of `--save`, and that of `load`; of a script never the one that is opened; a put, a del and a swap save where they read,
+-- and a convert at the new path
 abbrev pub path_of : Job → Option JobPath
 path_of (Serve opened saved) = at saved
 path_of (Check path) = None

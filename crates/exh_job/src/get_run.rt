@@ -7,18 +7,19 @@ ghost use Rattle.exh_job.specs.GetRun.{EndsAs, EndsGet, EndsValue, get_refusal_l
 
 use crate::last_line::{OUT_OF_MEMORY, UNOPENED, print_last, print_line, tell_line};
 use crate::status::Status;
-use exh_direct::{Blocks, DirectFault, find};
+use exh_direct::{Blocks, DirectFault};
 use exh_page::{Key, Value};
 use exh_report::push_block;
 use exh_stream::Output;
 use exh_text::{push_refused, push_text, push_value};
+use exh_walked::find_any;
 use std::alloc::{AllocError, Global};
 use std::io;
 use std::io::Write;
 
-/// Prints the value that a page file has at a key, by the file's own blocks, of which `opened` says what came of opening
-/// it, on an output that holds nothing back and whose writer hasn't failed; and says with which status the program ends.
-/// Where memory ran out the last line is `refused 10`.
+/// Prints the value that a page file of any version has at a key, by the file's own blocks, of which `opened` says what came
+/// of opening it, on an output that holds nothing back and whose writer hasn't failed; and says with which status the program
+/// ends. Where memory ran out the last line is `refused 10`.
 pub fn tell_key<B: Blocks + Drop, W: Write>(
     alloc: Global,
     opened: io::Result<B>,
@@ -34,7 +35,7 @@ pub fn tell_key<B: Blocks + Drop, W: Write>(
         EndsUnopened (held W.contents output.old) (held W.contents output.new) (writer_failed output.new) result) }
 {
     match opened {
-        Ok(mut blocks) => tell_found(alloc, find(alloc, &mut blocks, key), output),
+        Ok(mut blocks) => tell_found(alloc, find_any(alloc, &mut blocks, key), output),
         Err(_) => {
             let _ = print_line(output, UNOPENED);
             Status::Refused

@@ -108,7 +108,7 @@ found_few known key old new value finds =
     header_walks_and_page old finds.first finds.reads finds.between new (groups_read names.blocks) finds.place names.read.are.once (few_groups old finds.first finds.reads known header (pseudokey_in header key) names.blocks names.few)
     (of_groups old finds.first finds.reads known header (pseudokey_in header key) finds.between names.blocks names.read.reads) finds.found.reads
 
-zero_few : (old new : Option (List ℕ)) → MayRead old new 0 → ReadsFew old new
+pub zero_few : (old new : Option (List ℕ)) → MayRead old new 0 → ReadsFew old new
 zero_few old new (inl none) = record { places = []; are = none; once = none_twice; few = omega arith }
 zero_few old new (inr read) = record { places = 0 ∷ []; are = read; once = distinct_behind_zero [] none_twice tt; few = omega arith }
 

@@ -6,3 +6,4 @@ pub mod WardNumbers
 pub mod LegalWards
 pub mod PlacedWalks
 pub mod InPlaced
+pub mod AnyVersion

@@ -61,11 +61,11 @@ slice_group xs place =
 
 -- ---- how long a header's block is
 
-length-front : (version : FileVersion) (header : Header) → length (front_bytes version header) ≡ 20
+pub length-front : (version : FileVersion) (header : Header) → length (front_bytes version header) ≡ 20
 unfolding front_bytes
 length-front version header = refl
 
-length-counts : (counts : List ℕ) → length (flat_map (big_bytes 4) counts) ≡ 4 * length counts
+pub length-counts : (counts : List ℕ) → length (flat_map (big_bytes 4) counts) ≡ 4 * length counts
 length-counts [] = refl
 length-counts (count ∷ counts) = omega (arith, length-append (big_bytes 4 count) (flat_map (big_bytes 4) counts), length-bytes_high_first 4 count, length-counts counts)
 
@@ -89,7 +89,7 @@ header_image : (header : StampedHeader) → IsStampedHeader header → IsStamped
 unfolding stamped_block
 header_image header valid = record { valid = valid; whole = refl }
 
-length-header : (header : StampedHeader) → IsStampedHeader header → length (stamped_block header) ≡ 4096
+pub length-header : (header : StampedHeader) → IsStampedHeader header → length (stamped_block header) ≡ 4096
 length-header header valid =
     length-sealed (stamped_block header) (padded 4064 (stamped_bytes header)) (length-padded 4064 (stamped_bytes header) (length-stamped header valid)) (header_image header valid).whole
 

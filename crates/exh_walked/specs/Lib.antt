@@ -2,3 +2,4 @@ pub mod WalkBlocks
 pub mod CellWalk
 pub mod PlacedAnswer
 pub mod PlacedLaws
+pub mod AnyAnswer

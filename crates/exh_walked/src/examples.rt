@@ -3,7 +3,7 @@
 ghost use Rattle.std.specs.Prelude.{◌≤◌, None, length};
 ghost use Rattle.exh_codec.specs.declared.block.TheConstants.{CONTENT_LEN};
 
-use crate::find_placed;
+use crate::find_any;
 use exh_codec::{BLOCK_LEN, seal};
 use exh_direct::Blocks;
 use exh_page::{Key, SizeFault};
@@ -65,7 +65,7 @@ fn tells(
         blocks,
         read: Vec::new(alloc),
     };
-    let found = match find_placed(alloc, &mut held, &key) {
+    let found = match find_any(alloc, &mut held, &key) {
         Ok(Some(value)) => match value.as_bytes().first() {
             Some(first) => Told::Value(*first),
             None => Told::Absent,
@@ -213,7 +213,17 @@ fn broken_blocks(rt: HostRuntime) -> Result<(), Fail> {
     );
     blocks[1][11] = 0;
     assert!(rt; tells(rt.alloc(), &blocks, 0, Told::Refused(34, Some(1)), &[0, 1])?);
-    blocks[0][9] = 2;
+    assert!(rt; tells(rt.alloc(), &[], 0, Told::Refused(38, None), &[])?);
+    Ok(())
+}
+
+// By another number in the header the file is one of another version, whose header has other bytes.
+#[test]
+fn other_versions(rt: HostRuntime) -> Result<(), Fail> {
+    let mut blocks = three_pairs(1);
+    blocks[0][9] = 4;
     assert!(rt; tells(rt.alloc(), &blocks, 0, Told::Refused(37, None), &[0])?);
+    blocks[0][9] = 2;
+    assert!(rt; tells(rt.alloc(), &blocks, 0, Told::Refused(34, Some(0)), &[0])?);
     Ok(())
 }

@@ -1,9 +1,11 @@
-//! A get of a page file of version 3: the value of one key, from the header, the walk blocks on its way and one page
-//! alone.
+//! A get of a page file of any version, from the header and the blocks on the key's way alone: of version 3 the walk blocks
+//! and one page, of the versions before as `exh_direct` has it.
 #![tactic(auto)]
 
+pub use any::find_any;
 pub use finding::find_placed;
 
+mod any;
 #[cfg(test)]
 mod examples;
 mod finding;

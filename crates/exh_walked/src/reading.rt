@@ -2,32 +2,12 @@ ghost use Rattle.std.specs.Prelude.{◌≡◌, ◌≤◌, [], ◌∷◌, vec_len
 ghost use Rattle.std.specs.Io.KnownBytes.{Appends};
 ghost use Rattle.exh_direct.specs.KnownBlocks.{BlockFails, IsCount, MayRead};
 ghost use Rattle.exh_cells.specs.declared.places.TheConstants.{GROUP_PAGES};
-ghost use Rattle.exh_walked.specs.WalkBlocks.{HeaderFails, IsHeaderAt, IsWalkBlock, WalkFails};
+ghost use Rattle.exh_walked.specs.WalkBlocks.{IsWalkBlock, WalkFails};
 
-use exh_cells::{Cell, StampedHeader, decode_cells};
+use exh_cells::{Cell, decode_cells};
 use exh_codec::BLOCK_LEN;
 use exh_direct::{Blocks, DirectFault, read_block};
 use std::alloc::Global;
-
-/// The header that the first of so many blocks has.
-pub(crate) fn read_header<B: Blocks>(
-    blocks: &mut B,
-    count: u64,
-) -> Result<StampedHeader, DirectFault>
-    requires { IsCount (B.known blocks.old) count }
-    ensures same_bytes { B.known blocks.new ≡ B.known blocks.old }
-    ensures may_read { MayRead (B.reads blocks.old) (B.reads blocks.new) 0 }
-    ensures one_read { OnOk result (Appends (B.reads blocks.old) (B.reads blocks.new) (0 ∷ [])) }
-    ensures ok { IfOk result (IsHeaderAt (B.known blocks.old)) }
-    ensures err { IfErr result (BlockFails HeaderFails (B.known blocks.old) 0) }
-{
-    let mut block = [0; BLOCK_LEN];
-    read_block(blocks, count, 0, &mut block)?;
-    match StampedHeader::from_block(&block) {
-        Ok(header) => Ok(header),
-        Err(fault) => Err(DirectFault::File(fault)),
-    }
-}
 
 /// So many cells, of the walk block at a place.
 pub(crate) fn read_cells<B: Blocks>(

@@ -3,7 +3,7 @@ use Rattle.exh_direct.proofs.ReadOnce.{once_read}
 use Rattle.exh_direct.proofs.finding.find.Goals as goal
 
 pub returns-clause-every : goal.returns-clause-every
-returns-clause-every g c =
+returns-clause-every g c before heads =
     every (record {
       one_page = c.one_page.ensures;
       pages_pass = c.images_pass.ensures;
@@ -15,7 +15,7 @@ returns-clause-every g c =
       header_blocks = c.images_are_blocks-2.ensures.headers;
       table_blocks = c.images_are_blocks-2.ensures.tables;
       walks = c.walks_name_homes.ensures;
-    }) _ _ _ _ _ _ c.find_on_way.ensures.found c.find_on_way.ensures.refused
+    }) _ _ _ _ _ _ (c.find_on_way.ensures.found before heads) (c.find_on_way.ensures.refused before heads)
 
 pub returns-clause-once : goal.returns-clause-once
-returns-clause-once g c = once_read _ _ _ _ _ _ c.find_on_way.ensures.found c.find_on_way.ensures.refused
+returns-clause-once g c before heads = once_read _ _ _ _ _ _ (c.find_on_way.ensures.found before heads) (c.find_on_way.ensures.refused before heads)

@@ -3,10 +3,10 @@ use Rattle.exh_walked.proofs.InPlaced.{every}
 use Rattle.exh_walked.proofs.finding.find_placed.Goals as goal
 
 pub returns-clause-few : goal.returns-clause-few
-returns-clause-few g c = few_read _ _ _ _ _ c.find_on_way.ensures.found c.find_on_way.ensures.refused
+returns-clause-few g c before heads = few_read _ _ _ _ _ (c.find_on_way.ensures.found before heads) (c.find_on_way.ensures.refused before heads)
 
 pub returns-clause-legal : goal.returns-clause-legal
-returns-clause-legal g c =
+returns-clause-legal g c before heads =
     every (record {
       one_page = c.one_page.ensures;
       pages_pass = c.images_pass.ensures;
@@ -18,4 +18,4 @@ returns-clause-legal g c =
       walk_blocks = c.walk_blocks_pass.ensures.blocks;
       slots = c.slots_are_entries.ensures.slots;
       homes = c.walks_name_homes.ensures;
-    }) _ _ _ _ _ c.find_on_way.ensures.found c.find_on_way.ensures.refused
+    }) _ _ _ _ _ (c.find_on_way.ensures.found before heads) (c.find_on_way.ensures.refused before heads)
