@@ -2,9 +2,8 @@
 ghost use Rattle.exh_job.specs.JobPath.{SavesAt};
 
 use crate::serve_script::{ending_of, serve_script};
-use exh_job::{Ending, FileWards, INPUT, JobPath, opened_at, tell_reason, warn};
+use exh_job::{Ending, FileWards, HeldFile, INPUT, JobPath, opened_at, tell_reason, warn};
 use exh_notes::{Expect, Notes, ReasonReader};
-use exh_path::OpenedFile;
 use std::cell::Cell;
 use std::io;
 
@@ -12,15 +11,15 @@ use std::io;
 /// open. Whether its wards can be saved at their path is seen before.
 pub(crate) fn serve<'w>(
     rt: &HostRuntime,
-    open: Option<&str>,
+    open: Option<&'w str>,
     save: Option<JobPath<'w>>,
-) -> (Ending<'w>, Option<OpenedFile>)
+) -> (Ending<'w>, Option<HeldFile<'w>>)
     ensures { SavesAt save.entry result.0 }
 {
     match opened_at(rt, open) {
-        Ok((from, seen)) => {
-            warn(rt, save.map(|it| it.path()), seen.as_ref());
-            (serve_over(rt, from, save), seen)
+        Ok((from, held)) => {
+            warn(rt, save.map(|it| it.path()), held.as_ref());
+            (serve_over(rt, from, save), held)
         }
         Err(status) => (Ending::Over(status), None),
     }

@@ -8,7 +8,7 @@ use Rattle.exh_file.specs.ReplyLine.{is_done, reply_line}
 use Rattle.exh_job.specs.LastLine.{PrintsLine, TellsLine, memory_line}
 use Rattle.exh_job.specs.declared.job_path.JobPath.{JobPath}
 use Rattle.exh_job.specs.declared.ending.Ending.{Ending}
-use Rattle.exh_job.specs.declared.ending.Ending.TheVariants.{Over, Save, SaveAndTell}
+use Rattle.exh_job.specs.declared.ending.Ending.TheVariants.{Over, Save, SaveAndTell, SaveNew}
 use Rattle.exh_job.specs.declared.status.Status.{Status}
 use Rattle.exh_job.specs.declared.status.Status.TheVariants.{Done, Missing, Refused}
 
@@ -25,6 +25,7 @@ pub record IsAnsweredBy (file : OpenedState) (call : Call) (reply : Reply) (left
 abbrev pub SavesFile : Option JobPath → OpenedState → List ℕ → Ending → Type 0
 SavesFile path left line (Over status) = (path ≡ None) × (status ≡ Refused)
 SavesFile path left line (Save one wards) = ⊥
+SavesFile path left line (SaveNew one wards version) = ⊥
 SavesFile path left line (SaveAndTell one wards told) = (path ≡ Some one) × (wards ≡ left) × (told.items ≡ line)
 
 -- of a writer that held `old` bytes before and `new` ones after, where these are known, and of whether it failed

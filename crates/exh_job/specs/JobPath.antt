@@ -5,7 +5,7 @@ use Rattle.exh_command.specs.declared.job.Job.{Job}
 use Rattle.exh_command.specs.declared.job.Job.TheVariants.{Serve, Check, Dump, Load, Storm, Get, Change, Pairs, Convert}
 use Rattle.exh_job.specs.declared.job_path.JobPath.{JobPath}
 use Rattle.exh_job.specs.declared.ending.Ending.{Ending}
-use Rattle.exh_job.specs.declared.ending.Ending.TheVariants.{Over, Save, SaveAndTell}
+use Rattle.exh_job.specs.declared.ending.Ending.TheVariants.{Over, Save, SaveAndTell, SaveNew}
 
 abbrev pub at : Option (Bor (List ℕ)) → Option JobPath
 at None = None
@@ -29,3 +29,4 @@ abbrev pub SavesAt : Option JobPath → Ending → Type 0
 SavesAt path (Over status) = ⊤
 SavesAt path (Save one wards) = path ≡ Some one
 SavesAt path (SaveAndTell one wards line) = path ≡ Some one
+SavesAt path (SaveNew one wards version) = path ≡ Some one

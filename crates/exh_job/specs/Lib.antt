@@ -2,6 +2,7 @@ pub mod ExitStatus
 pub mod LastLine
 pub mod OpenRun
 pub mod Opening
+pub mod HeldForm
 pub mod JobPath
 pub mod FileRun
 pub mod PairsAgain

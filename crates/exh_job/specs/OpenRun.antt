@@ -2,26 +2,15 @@
 use Rattle.std.specs.Prelude.{◌≡◌, ◌⊎◌, ℕ, Bool, List, [], ◌∷◌, ◌++◌, codes, Option, Result, Ok, Err}
 use Rattle.exh_text.specs.Contents.{on_line}
 use Rattle.exh_text.specs.Printing.{refused_text}
-use Rattle.exh_format.specs.PageFile.{PageFile}
-use Rattle.exh_format.specs.Reading.{AreBytes, IsAll}
-use Rattle.exh_versions.specs.LegalBytes.{IsLegalBytes}
+use Rattle.exh_versions.specs.declared.file_form.FileForm.{FileForm}
 use Rattle.exh_file.specs.Opened.{OpenedState}
-use Rattle.exh_file.specs.Opening.{IsOpenedFile, IsOpenFaultOf}
+use Rattle.exh_file.specs.Opening.{IsOpenedAs, IsOpenFaultOf}
 use Rattle.exh_file.specs.declared.open_fault.OpenFault.{OpenFault}
 use Rattle.exh_file.specs.declared.open_fault.OpenFault.TheVariants.{File, Page}
 use Rattle.exh_report.specs.Finding.{refusal_words}
 use Rattle.exh_job.specs.LastLine.{PrintsLine, memory_line}
 use Rattle.exh_job.specs.declared.status.Status.{Status}
 use Rattle.exh_job.specs.declared.status.Status.TheVariants.{Refused}
-
--- the wards of the legal page file that bytes are, which are these where they are known
-pub record IsOpenedFrom (known : Option (List ℕ)) (opened : OpenedState) : Type 0 where
-  pub file : PageFile
-  pub bytes : List ℕ
-  pub all : IsAll known bytes
-  pub are_bytes : AreBytes bytes
-  pub legal : IsLegalBytes file bytes
-  pub is : IsOpenedFile file opened
 
 -- the only line where a file can't be opened
 abbrev pub unopened_line : List ℕ
@@ -41,9 +30,9 @@ module _ (old new : Option (List ℕ)) (failed : Bool) where
     pub found : IsOpenFaultOf known fault
     pub printed : PrintsLine old new failed (open_refusal_line fault) ⊎ PrintsLine old new failed memory_line
 
-  -- the file's wards, and nothing printed; or its refusal told
-  abbrev pub OpensOrTells : Option (List ℕ) → Result OpenedState Status → Type 0
-  OpensOrTells known (Ok opened) = (new ≡ old) × IsOpenedFrom known opened
+  -- the file's wards and its form, and nothing printed; or its refusal told
+  abbrev pub OpensOrTells : Option (List ℕ) → Result (OpenedState × FileForm) Status → Type 0
+  OpensOrTells known (Ok opened) = (new ≡ old) × IsOpenedAs known opened.0 opened.1
   OpensOrTells known (Err status) = (status ≡ Refused) × TellsFault known
 
   -- the file couldn't be opened: its line, or where the writer failed a beginning of it

@@ -5,6 +5,7 @@ use Rattle.exh_text.specs.TextLines.{is_empty, newline, parts_at, space}
 use Rattle.exh_text.specs.Numbers.{index_spelled}
 use Rattle.exh_format.specs.declared.header.Header.{Header}
 use Rattle.exh_format.specs.PageFile.{table_blocks}
+use Rattle.exh_cells.specs.Places.{end_block_of}
 
 -- the first word that isn't empty, or an empty one
 abbrev pub first_full : List (List ℕ) → List ℕ
@@ -26,3 +27,7 @@ limit_told text = number_behind (codes "Max file size ") (parts_at newline text)
 -- the blocks of a page file of this header: it, the pages, and those of the table
 abbrev pub blocks_told : Header → ℕ
 blocks_told header = 1 + (sum header.page_counts + table_blocks header.entry_count)
+
+-- those of one of version 3: the header, the pages, and a walk block for each group of them
+abbrev pub placed_blocks : Header → ℕ
+placed_blocks header = end_block_of (sum header.page_counts)

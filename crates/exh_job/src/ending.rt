@@ -3,6 +3,7 @@
 use crate::job_path::JobPath;
 use crate::status::Status;
 use crate::stores::FileWards;
+use exh_command::PageFileVersion;
 
 /// How the program ends after the run of a job.
 #[derive(Drop)]
@@ -19,5 +20,11 @@ pub enum Ending<'w> {
         path: JobPath<'w>,
         wards: FileWards,
         line: Vec<u8>,
+    },
+    /// After these wards are saved as a new file of this version at a job's path, where nothing is.
+    SaveNew {
+        path: JobPath<'w>,
+        wards: FileWards,
+        version: PageFileVersion,
     },
 }

@@ -7,7 +7,7 @@ ghost use Rattle.exh_job.specs.OpenRun.{EndsUnopened, OpensOrTells, open_refusal
 use crate::last_line::{OUT_OF_MEMORY, UNOPENED, print_last};
 use crate::status::Status;
 use crate::stores::FileWards;
-use exh_file::{OpenFault, open};
+use exh_file::{FileForm, OpenFault, open_form};
 use exh_report::push_refusal;
 use exh_stream::Output;
 use exh_text::{push_refused, push_text};
@@ -15,14 +15,14 @@ use std::alloc::{AllocError, Global};
 use std::io;
 use std::io::{Read, Write};
 
-/// The wards of a page file, of which `opened` says what came of opening it. Where there are none it says why on an
+/// The wards of a page file, of which `opened` says what came of opening it, and how it has its pages in places. Where there are none it says why on an
 /// output that holds nothing back and whose writer hasn't failed, and gives the status with which the program ends: the
 /// line is that of `check`, and after want of memory `refused 10`.
 pub fn open_file<F: Read + Drop, W: Write>(
     alloc: Global,
     opened: io::Result<F>,
     output: &mut Output<'_, W>,
-) -> Result<FileWards, Status>
+) -> Result<(FileWards, FileForm), Status>
     requires open { IsFalse (writer_failed output.old) }
     requires empty { pending output.old ≡ [] }
     ensures same_writer { SameWriter output.old output.new }
@@ -45,13 +45,13 @@ fn open_bytes<R: Read, W: Write>(
     alloc: Global,
     reader: &mut R,
     output: &mut Output<'_, W>,
-) -> Result<FileWards, Status>
+) -> Result<(FileWards, FileForm), Status>
     requires open { IsFalse (writer_failed output.old) }
     requires empty { pending output.old ≡ [] }
     ensures same_writer { SameWriter output.old output.new }
     ensures opens { OpensOrTells (held W.contents output.old) (held W.contents output.new) (writer_failed output.new) (R.remaining reader.old) result }
 {
-    match open(alloc, reader) {
+    match open_form(alloc, reader) {
         Ok(opened) => Ok(opened),
         Err(fault) => {
             tell_fault(alloc, fault, output);

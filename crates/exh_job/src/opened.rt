@@ -4,6 +4,7 @@ ghost use Rattle.std.specs.Option.{option_copied};
 ghost use Rattle.exh_job.specs.Opening.{IsNamed, IsOpenedAt};
 ghost use Rattle.exh_job.specs.declared.status.Status.TheVariants.{Refused};
 
+use crate::held_file::HeldFile;
 use crate::open_run::open_file;
 use crate::said::{Reason, tell_reason, with_reason};
 use crate::saving::{refuse_for_memory, refuse_save};
@@ -20,29 +21,29 @@ use std::io;
 const TRIES: u32 = 100;
 
 /// The wards of a page file, and the file, which is held open.
-type Opening = (FileWards, OpenedFile);
+type Opening<'w> = (FileWards, HeldFile<'w>);
 
 /// The wards of the page file of a path, where one is named, and the file, which is held open. A terminal is told how far
 /// the reading is. Where it isn't opened that is told, and the answer is the status with which the program ends.
-pub fn opened_at(
+pub fn opened_at<'w>(
     rt: &HostRuntime,
-    path: Option<&str>,
-) -> Result<(Option<FileWards>, Option<OpenedFile>), Status>
+    path: Option<&'w str>,
+) -> Result<(Option<FileWards>, Option<HeldFile<'w>>), Status>
     ensures ok { IfOk result (λ opened. IsOpenedAt (option_copied path.entry) opened.0 opened.1) }
     ensures err { IfErr result (λ status. status ≡ Refused) }
 {
     match path {
         Some(path) => {
-            let (wards, seen) = open_at(rt, path)?;
-            Ok((Some(wards), Some(seen)))
+            let (wards, held) = open_at(rt, path)?;
+            Ok((Some(wards), Some(held)))
         }
         None => Ok((None, None)),
     }
 }
 
 /// The same of a path that is named.
-pub fn open_at(rt: &HostRuntime, path: &str) -> Result<Opening, Status>
-    ensures ok { IfOk result (λ opening. IsNamed path.now opening.1) }
+pub fn open_at<'w>(rt: &HostRuntime, path: &'w str) -> Result<Opening<'w>, Status>
+    ensures ok { IfOk result (λ opening. IsNamed path.now opening.1.seen) }
     ensures err { IfErr result (λ status. status ≡ Refused) }
 {
     let reason = Cell::new(None);
@@ -52,8 +53,8 @@ pub fn open_at(rt: &HostRuntime, path: &str) -> Result<Opening, Status>
 
 /// The same of a file that is locked before it is read, so that no other run saves over it until this one is done. Where
 /// another run has the lock standard error says so.
-pub fn open_alone(rt: &HostRuntime, path: &str) -> Result<Opening, Status>
-    ensures ok { IfOk result (λ opening. IsNamed path.now opening.1) }
+pub fn open_alone<'w>(rt: &HostRuntime, path: &'w str) -> Result<Opening<'w>, Status>
+    ensures ok { IfOk result (λ opening. IsNamed path.now opening.1.seen) }
     ensures err { IfErr result (λ status. status ≡ Refused) }
 {
     for _ in 0..TRIES {
@@ -95,13 +96,13 @@ fn seen_at(rt: &HostRuntime, path: &str, reason: &Reason) -> Result<io::Result<O
 }
 
 // Reads an opened file.
-fn read_opened(
+fn read_opened<'w>(
     rt: &HostRuntime,
-    path: &str,
+    path: &'w str,
     seen: io::Result<OpenedFile>,
     reason: &Reason,
-) -> Result<Opening, Status>
-    ensures ok { IfOk result (λ opening. IsOkAnd seen (λ was. opening.1 ≡ was)) }
+) -> Result<Opening<'w>, Status>
+    ensures ok { IfOk result (λ opening. IsOkAnd seen (λ was. opening.1.seen ≡ was)) }
     ensures err { IfErr result (λ status. status ≡ Refused) }
 {
     let opened = match &seen {
@@ -111,11 +112,11 @@ fn read_opened(
     let meter = reading_meter(rt, opened.ok());
     let counted = opened.map(|file| MeteredReader::new(ReasonReader::new(file, reason), &meter));
     let mut writer = ClearingWriter::new(io::writer(rt), &meter);
-    let wards = open_file(rt.alloc(), counted, &mut Output::new(&mut writer));
+    let found = open_file(rt.alloc(), counted, &mut Output::new(&mut writer));
     meter.clear();
     tell_reason(rt, path, reason);
-    match (wards, seen) {
-        (Ok(wards), Ok(seen)) => Ok((wards, seen)),
+    match (found, seen) {
+        (Ok((wards, form)), Ok(seen)) => Ok((wards, HeldFile { path, seen, form })),
         (Err(status), _) => Err(status),
         (Ok(_), Err(_)) => Err(Status::Refused),
     }

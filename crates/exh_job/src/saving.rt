@@ -2,23 +2,28 @@
 ghost use Rattle.std.specs.Prelude.{◌≡◌, ◌⊎◌};
 ghost use Rattle.exh_job.specs.declared.status.Status.TheVariants.{Done, Refused};
 
+use crate::drafting::{drafted, drafted_anew};
+use crate::form_saved::form_saved;
+use crate::held_file::HeldFile;
 use crate::job_path::JobPath;
 use crate::last_line::print_out_of_memory;
 use crate::size_limit::above_limit;
 use crate::status::Status;
 use crate::stores::FileWards;
 use crate::watch::saving_meter;
+use exh_command::PageFileVersion;
 use exh_file::Draft;
+use exh_frames::FileStore;
 use exh_path::{DiskFault, OpenedFile, SystemDisk, look_at, save_at};
 use exh_stream::Output;
-use std::io;
+use std::{fs, io};
 
 /// Says on standard error why a path can't be saved to, where that can be told before the run.
-pub fn warn(rt: &HostRuntime, path: Option<&str>, seen: Option<&OpenedFile>) {
+pub fn warn(rt: &HostRuntime, path: Option<&str>, held: Option<&HeldFile<'_>>) {
     let Some(path) = path else {
         return;
     };
-    match look_at(rt.alloc(), &mut SystemDisk::new(rt), path, seen) {
+    match look_at(rt.alloc(), &mut SystemDisk::new(rt), path, seen_in(held)) {
         Ok(()) | Err(DiskFault::Memory) => {}
         Err(fault) => {
             let _ = eprintln!(rt; "exhash: can't save to {path:?}: {fault}");
@@ -26,24 +31,83 @@ pub fn warn(rt: &HostRuntime, path: Option<&str>, seen: Option<&OpenedFile>) {
     }
 }
 
-/// Saves wards as the file of a job's path, and on a terminal tells how far that is. Standard error says in a line why
-/// it isn't saved; where memory ran out, that is the last line, `refused 10`, on standard output.
+/// Saves wards as the file of a job's path, and on a terminal tells how far that is: in the places of the file that was
+/// opened by the same path, where that is of version 3, else in the version that is written. Standard error says in a line
+/// why it isn't saved; where memory ran out, that is the last line, `refused 10`, on standard output.
 pub fn save_at_path(
     rt: &HostRuntime,
     save: JobPath<'_>,
-    seen: Option<&OpenedFile>,
+    held: Option<&HeldFile<'_>>,
     wards: FileWards,
 ) -> Status
     ensures { (result ≡ Done) ⊎ (result ≡ Refused) }
 {
     let path = save.path();
-    if let Some(above) = above_limit(rt, path, &wards) {
+    let form = form_saved(path, held);
+    if let Some(above) = above_limit(rt, path, &wards, form.is_some()) {
         let _ = eprintln!(rt; "exhash: not saved to {path:?}: {above}");
         return Status::Refused;
     }
+    match drafted(rt, path, form, wards) {
+        Ok(draft) => save_draft(rt, path, seen_in(held), draft),
+        Err(status) => status,
+    }
+}
+
+/// Saves wards as a new file of a version at a job's path, and on a terminal tells how far that is. Standard error says why
+/// it isn't saved, as where something is there that isn't empty; where memory ran out, that is the last line, `refused 10`,
+/// on standard output.
+pub fn save_new(
+    rt: &HostRuntime,
+    save: JobPath<'_>,
+    wards: FileWards,
+    version: PageFileVersion,
+) -> Status
+    ensures { (result ≡ Done) ⊎ (result ≡ Refused) }
+{
+    let path = save.path();
+    if is_taken(rt, path) {
+        let _ = eprintln!(rt; "exhash: not saved to {path:?}: what is there isn't empty");
+        return Status::Refused;
+    }
+    let is_placed = matches!(version, PageFileVersion::Third);
+    if let Some(above) = above_limit(rt, path, &wards, is_placed) {
+        let _ = eprintln!(rt; "exhash: not saved to {path:?}: {above}");
+        return Status::Refused;
+    }
+    match drafted_anew(rt, path, version, wards) {
+        Ok(draft) => save_draft(rt, path, None, draft),
+        Err(status) => status,
+    }
+}
+
+// Whether a regular file is at a path that isn't empty.
+fn is_taken(rt: &HostRuntime, path: &str) -> bool {
+    match fs::metadata(rt, path) {
+        Ok(about) => about.is_file() && about.len() > 0,
+        Err(_) => false,
+    }
+}
+
+// The file that is held open.
+fn seen_in<'h>(held: Option<&'h HeldFile<'_>>) -> Option<&'h OpenedFile> {
+    match held {
+        Some(held) => Some(&held.seen),
+        None => None,
+    }
+}
+
+/// Saves a draft as the file of a path, and on a terminal tells how far that is.
+pub(crate) fn save_draft(
+    rt: &HostRuntime,
+    path: &str,
+    seen: Option<&OpenedFile>,
+    draft: Draft<FileStore>,
+) -> Status
+    ensures { (result ≡ Done) ⊎ (result ≡ Refused) }
+{
     let meter = saving_meter(rt);
     let mut disk = SystemDisk::new(rt);
-    let draft = Draft::plain(wards);
     let (saved, _draft) = save_at(rt.alloc(), &mut disk, path, seen, draft, &meter);
     meter.clear();
     match saved {

@@ -1,9 +1,11 @@
 //! The system's limit on the size of a file, which a save must not come to.
-ghost use Rattle.std.specs.Prelude.{◌≡◌, ◌*◌};
+ghost use Rattle.std.specs.Prelude.{◌≡◌, ◌≤◌, ◌*◌, ◌^◌};
+ghost use Rattle.std.specs.List.{sum};
 ghost use Rattle.exh_codec.specs.declared.block.TheConstants.{BLOCK_LEN};
-ghost use Rattle.exh_job.specs.SizeLimit.{blocks_told, first_word, limit_told};
+ghost use Rattle.exh_job.specs.SizeLimit.{blocks_told, first_word, limit_told, placed_blocks};
 
 use crate::FileWards;
+use exh_cells::GROUP_PAGES;
 use exh_codec::BLOCK_LEN;
 use exh_format::{BLOCK_ENTRIES, Header};
 use exh_path::open_above;
@@ -29,10 +31,21 @@ pub struct AboveLimit {
 }
 
 /// Whether the page file of wards would be above the system's limit on the size of files, where it tells one. What a path
-/// leads to that is no regular file, as a pipe or a device, has none.
-pub fn above_limit(rt: &HostRuntime, path: &str, wards: &FileWards) -> Option<AboveLimit> {
+/// leads to that is no regular file, as a pipe or a device, has none. The file is of version 3, or of the version that is
+/// written.
+pub fn above_limit(
+    rt: &HostRuntime,
+    path: &str,
+    wards: &FileWards,
+    is_placed: bool,
+) -> Option<AboveLimit> {
     let limit = limit_told(&limits(rt).ok()?)?;
-    let size = file_len(&wards.header());
+    let header = wards.header();
+    let size = if is_placed {
+        placed_len(&header)
+    } else {
+        file_len(&header)
+    };
     if size > limit && !is_no_regular(rt, path) {
         Some(AboveLimit { size, limit })
     } else {
@@ -89,4 +102,24 @@ fn file_len(header: &Header) -> u64
         blocks += u64::from(*pages);
     }
     blocks * BLOCK_LEN as u64
+}
+
+// How many bytes a page file of version 3 has, of wards that have so many pages.
+fn placed_len(header: &Header) -> u64
+    ensures { result ≡ BLOCK_LEN * placed_blocks header.now }
+{
+    let pages = pages_in(header);
+    (1 + pages + pages.div_ceil(u64::from(GROUP_PAGES))) * BLOCK_LEN as u64
+}
+
+// How many pages a file has.
+fn pages_in(header: &Header) -> u64
+    ensures count { result ≡ sum header.now.page_counts }
+    ensures few { result ≤ 2 ^ 36 }
+{
+    let mut all = 0;
+    for pages in &header.page_counts {
+        all += u64::from(*pages);
+    }
+    all
 }

@@ -9,12 +9,14 @@ use crate::file_run::{Topic, tell_file};
 use crate::get_run::tell_key;
 use crate::said::tell_unprinted;
 use crate::{
-    Ending, FileWards, JobPath, Status, open_alone, reading_meter, tell_reason, with_reason,
+    Ending, FileWards, HeldFile, JobPath, Status, open_alone, open_at, reading_meter, tell_reason,
+    with_reason,
 };
 use exh_calls::Call;
+use exh_command::PageFileVersion;
 use exh_notes::{ReasonReader, ReasonWriter};
 use exh_page::Key;
-use exh_path::{OpenedFile, open_above};
+use exh_path::open_above;
 use exh_stream::{ClearingWriter, MeteredReader, Output};
 use std::cell::Cell;
 use std::io;
@@ -51,15 +53,15 @@ pub fn get(rt: &HostRuntime, path: &str, key: &Key) -> Status {
 /// done what it leaves is to be saved at the job's path, and then the answer told.
 pub fn change<'w>(
     rt: &HostRuntime,
-    path: &str,
+    path: &'w str,
     call: &Call,
     save: Option<JobPath<'w>>,
-) -> (Ending<'w>, Option<OpenedFile>)
+) -> (Ending<'w>, Option<HeldFile<'w>>)
     ensures saves { SavesAt save.entry result.0 }
-    ensures named { IfSome result.1 (IsNamed path.now) }
+    ensures named { IfSome result.1 (λ held. IsNamed path.now held.seen) }
 {
     match open_alone(rt, path) {
-        Ok((wards, seen)) => (answer_over(rt, wards, call, save), Some(seen)),
+        Ok((wards, held)) => (answer_over(rt, wards, call, save), Some(held)),
         Err(status) => (Ending::Over(status), None),
     }
 }
@@ -85,4 +87,30 @@ pub fn tell_change(rt: &HostRuntime, path: &str, saved: Status, line: &[u8]) -> 
     let status = tell_saved(saved, line, &mut Output::new(&mut writer));
     tell_unprinted(rt, path, &reason);
     status
+}
+
+/// Opens the page file of a path, whose wards are to be saved as a new file of a version at the job's path.
+pub fn convert<'w>(
+    rt: &HostRuntime,
+    path: &'w str,
+    version: PageFileVersion,
+    save: Option<JobPath<'w>>,
+) -> (Ending<'w>, Option<HeldFile<'w>>)
+    ensures saves { SavesAt save.entry result.0 }
+    ensures named { IfSome result.1 (λ held. IsNamed path.now held.seen) }
+{
+    match open_at(rt, path) {
+        Ok((wards, held)) => match save {
+            Some(path) => (
+                Ending::SaveNew {
+                    path,
+                    wards,
+                    version,
+                },
+                Some(held),
+            ),
+            None => (Ending::Over(Status::Refused), Some(held)),
+        },
+        Err(status) => (Ending::Over(status), None),
+    }
 }

@@ -6,10 +6,9 @@ ghost use Rattle.exh_job.specs.Opening.{IsNamed};
 use crate::file_watch::{pair_notes, pairs_meter};
 use crate::load_run::{load_ending, load_long_pairs, load_pairs};
 use crate::numbered_writer::NumberedWriter;
-use crate::{Ending, FileWards, INPUT, JobPath, opened_at, tell_reason, warn};
+use crate::{Ending, FileWards, HeldFile, INPUT, JobPath, opened_at, tell_reason, warn};
 use exh_command::LoadWay;
 use exh_notes::{Expect, Notes, ReasonReader};
-use exh_path::OpenedFile;
 use exh_stream::{ClearingWriter, MeteredReader};
 use exh_text::SCRIPT_LIMIT;
 use std::cell::Cell;
@@ -19,21 +18,21 @@ use std::io;
 /// that is there, which is held open. A terminal is told how many were read.
 pub fn load<'w>(
     rt: &HostRuntime,
-    path: &str,
+    path: &'w str,
     way: LoadWay,
     save: Option<JobPath<'w>>,
-) -> (Ending<'w>, Option<OpenedFile>)
+) -> (Ending<'w>, Option<HeldFile<'w>>)
     ensures saves { SavesAt save.entry result.0 }
-    ensures named { IfSome result.1 (IsNamed path.now) }
+    ensures named { IfSome result.1 (λ held. IsNamed path.now held.seen) }
 {
     let from = match way {
         LoadWay::Short | LoadWay::Long => None,
         LoadWay::Into => Some(path),
     };
     match opened_at(rt, from) {
-        Ok((wards, seen)) => {
-            warn(rt, save.map(|it| it.path()), seen.as_ref());
-            (load_so(rt, way, wards, save), seen)
+        Ok((wards, held)) => {
+            warn(rt, save.map(|it| it.path()), held.as_ref());
+            (load_so(rt, way, wards, save), held)
         }
         Err(status) => (Ending::Over(status), None),
     }
