@@ -8,9 +8,11 @@
 # under the keyer plain. gdbmtool has the same pairs, a key as its hexadecimal digits. A run is the gets of 100 keys that
 # stand evenly in the file, each a program of its own, by the processor that they take, the start of the program included.
 # strace tells which blocks the get of each of twenty of these keys reads: the header, blocks of the table and one page.
+# Each file is measured as one of version 2, and as the one of version 3 that `convert` makes of it.
 #
-# Wanted: at most 2 times gdbmtool's time, at 60,000 pages 1.3 times; on average at most 24 blocks at 60,000 pages and 40
-# at 300,000, of the smaller files fewer than a table that is read whole takes; and no block twice. `pairs` at 60,000
+# Wanted of version 2: at most 2 times gdbmtool's time, at 60,000 pages 1.3 times; on average at most 24 blocks at 60,000
+# pages and 40 at 300,000, of the smaller files fewer than a table that is read whole takes. Of version 3: at most
+# gdbmtool's time, 10 blocks on average, and 1.05 of the bytes of version 2. No block is read twice. `pairs` at 60,000
 # pages, to nowhere: at most 1.3 times the digests' time.
 #
 # The long texts have 10 and 100 MiB, of pairs of keys of 12 bytes and values of 40, for `load --long` at keyer sha and
@@ -29,6 +31,8 @@ KEYS=100
 # How many pages the file has of which the pairs are timed, and how many times the digests' time is wanted.
 PAIRS_OF=60000
 PAIRS_WANTED=1.3
+# Of version 3: how many times gdbmtool's time is wanted, how many blocks on average, and how much of version 2's bytes.
+PLACED_WANTED=(1.0 10 1.05)
 # How many MiB the long texts have.
 LONG_TEXTS=(10 100)
 
@@ -140,27 +144,20 @@ time_load() {
     }' || short=1
 }
 
-for size in "${SIZES[@]}"; do
-    # shellcheck disable=SC2086 # Four words.
-    set -- $size
-    made=$("$timed" make "$folder/file.exh" "$2") || die "no file of $2 records could be made"
-    [ "$made" = "$1" ] || die "$2 records make $made pages, not $1"
-    rm -f "$folder/base" "$folder/stores"
-    write_words
-    gdbmtool --norc --quiet --newdb --no-lock "$folder/base" < "$folder/stores" || die 'gdbmtool made no file'
-    best='' rival=''
+# Times the gets of the keys out of a file of so many pages, beside gdbmtool's fetches, and counts what they read.
+#   time_gets PAGES VERSION FILE TIMES BLOCKS
+time_gets() {
+    local run line best='' rival='' blocks twice
     for ((run = 0; run < RUNS; run++)); do
-        line=$("$folder/clock" /dev/null /dev/null sh "$folder/gets" "$program" "$folder/file.exh" "$folder/words") ||
+        line=$("$folder/clock" /dev/null /dev/null sh "$folder/gets" "$program" "$3" "$folder/words") ||
             die 'a key is not found'
-        microseconds=${line%% *}
-        [ -z "$best" ] || [ "$microseconds" -lt "$best" ] && best=$microseconds
+        [ -z "$best" ] || [ "${line%% *}" -lt "$best" ] && best=${line%% *}
         line=$("$folder/clock" /dev/null /dev/null sh "$folder/fetches" "$folder/base" "$folder/words") ||
             die 'gdbmtool does not find a key'
-        microseconds=${line%% *}
-        [ -z "$rival" ] || [ "$microseconds" -lt "$rival" ] && rival=$microseconds
+        [ -z "$rival" ] || [ "${line%% *}" -lt "$rival" ] && rival=${line%% *}
     done
     awk 'NR % 5 == 1' "$folder/words" | while read -r key; do
-        strace -e trace=pread64 "$program" get "$folder/file.exh" "#$key" 2>&1 >/dev/null |
+        strace -e trace=pread64 "$program" get "$3" "#$key" 2>&1 >/dev/null |
             sed -n "s/^pread64(.*, 4096, \([0-9]*\)) *= 4096$/$key \1/p"
     done > "$folder/reads"
     blocks=$(awk '{ keys[$1] = 1; read++ } END { for (key in keys) count++; if (count) printf "%.1f", read / count }' \
@@ -171,15 +168,42 @@ for size in "${SIZES[@]}"; do
         echo "FALLS SHORT: at $1 pages $twice blocks are read twice"
         short=1
     fi
-    awk -v pages="$1" -v own="$best" -v rival="$rival" -v wanted="$3" -v blocks="$blocks" -v most="$4" -v keys="$KEYS" 'BEGIN {
-        printf "%6d pages: get %.2f ms, gdbmtool %.2f ms, %.2f times; %.1f blocks read on average\n", pages,
-            own / keys / 1e3, rival / keys / 1e3, own / rival, blocks
+    awk -v pages="$1" -v version="$2" -v own="$best" -v rival="$rival" -v wanted="$4" -v blocks="$blocks" -v most="$5" \
+        -v keys="$KEYS" 'BEGIN {
+        printf "%6d pages, version %d: get %.2f ms, gdbmtool %.2f ms, %.2f times; %.1f blocks read on average\n", pages,
+            version, own / keys / 1e3, rival / keys / 1e3, own / rival, blocks
         if (own > rival * wanted || blocks > most) {
             printf "FALLS SHORT: get at %d pages: %.2f and %.1f blocks, at most %.1f and %d are wanted\n", pages,
                 own / rival, blocks, wanted, most
             exit 1
         }
     }' || short=1
+}
+
+# Says how long the file of version 3 is beside that of version 2 it was made of.
+compare_sizes() {
+    awk -v pages="$1" -v plain="$(stat -c %s "$folder/file.exh")" -v placed="$(stat -c %s "$folder/placed.exh")" \
+        -v wanted="${PLACED_WANTED[2]}" 'BEGIN {
+        printf "%6d pages: version 3 has %.3f of the bytes of version 2\n", pages, placed / plain
+        if (placed > plain * wanted) {
+            printf "FALLS SHORT: at most %.2f is wanted\n", wanted
+            exit 1
+        }
+    }' || short=1
+}
+
+for size in "${SIZES[@]}"; do
+    # shellcheck disable=SC2086 # Four words.
+    set -- $size
+    made=$("$timed" make "$folder/file.exh" "$2") || die "no file of $2 records could be made"
+    [ "$made" = "$1" ] || die "$2 records make $made pages, not $1"
+    rm -f "$folder/base" "$folder/stores" "$folder/placed.exh"
+    "$program" convert "$folder/file.exh" "$folder/placed.exh" || die 'no file of version 3 could be made'
+    write_words
+    gdbmtool --norc --quiet --newdb --no-lock "$folder/base" < "$folder/stores" || die 'gdbmtool made no file'
+    time_gets "$1" 2 "$folder/file.exh" "$3" "$4"
+    time_gets "$1" 3 "$folder/placed.exh" "${PLACED_WANTED[@]:0:2}"
+    compare_sizes "$1"
     [ "$1" != "$PAIRS_OF" ] || time_pairs "$1"
 done
 for mib in "${LONG_TEXTS[@]}"; do time_load "$mib"; done
