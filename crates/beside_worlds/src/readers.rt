@@ -7,8 +7,9 @@ use exh_fixtures::{Difference, FakeReader, Part, Run, same, three_pairs};
 use std::alloc::{AllocError, Global};
 use std::io::ErrorKind;
 
-// The most bytes of a read, and how many reads the file takes then, with the one that sees its end.
-const READS: [(usize, u32); 2] = [(1, 16_385), (BLOCK_LEN, 5)];
+// The most bytes of a read, and how many reads the file takes then, with the one that sees its end. The ten bytes that say
+// its version are read before the rest of its header.
+const READS: [(usize, u32); 2] = [(1, 16_385), (BLOCK_LEN, 6)];
 
 /// Opens the file with a fault at each read that the rounds let it try, and at the last one; and without.
 pub(crate) fn run(run: &mut Run) -> Result<(), Difference> {
