@@ -1,14 +1,14 @@
 /* Refuses a call of the system, kills the program there or lets it wait: tests/run, tests/failing_calls,
- * tests/meeting_saves and tests/failing_meetings preload it.
+ * tests/meeting_saves, tests/failing_meetings and tests/in_place preload it.
  *
- * The call that REFUSED_CALL names, `open`, `read`, `pread`, `write`, `fsync`, `rename`, `link`, `ftruncate`, `fchmod`,
- * `fchown`, `flock`, `unlink`, `dup`, `statx`, `realpath` or `readlink`, or each of these by `any`, fails with the error
- * number REFUSED_ERROR, or where that is 0 the program is killed in its place: the call number REFUSED_NTH, counted
- * from 1 over all threads, or each where there is no such number. The call number REFUSED_AT is made, or fails, only
- * once the descriptor REFUSED_WAITS is at its end. Where there is REFUSED_ABOUT, only calls about a file with this in
- * its path count. Each of these calls, of whatever name, is told to the descriptor REFUSED_TELLS, if there is one, in a
- * line: its name; how the file is opened, 0 to read, 1 to write, 2 for both; and its path, or `&N` of the descriptors 0
- * to 2. One that waits is told again, by the name `waits`, and one that is refused by the name `refused`. */
+ * The call that REFUSED_CALL names, `open`, `read`, `pread`, `write`, `pwrite`, `fsync`, `fdatasync`, `rename`, `link`,
+ * `ftruncate`, `fchmod`, `fchown`, `flock`, `unlink`, `dup`, `statx`, `realpath` or `readlink`, or each of these by `any`,
+ * fails with the error number REFUSED_ERROR, or where that is 0 the program is killed in its place: the call number
+ * REFUSED_NTH, counted from 1 over all threads, or each where there is no such number. The call number REFUSED_AT is made,
+ * or fails, only once the descriptor REFUSED_WAITS is at its end. Where there is REFUSED_ABOUT, only calls about a file
+ * with this in its path count. Each of these calls, of whatever name, is told to the descriptor REFUSED_TELLS, if there is
+ * one, in a line: its name; how the file is opened, 0 to read, 1 to write, 2 for both; and its path, or `&N` of the
+ * descriptors 0 to 2. One that waits is told again, by the name `waits`, and one that is refused by the name `refused`. */
 #define _GNU_SOURCE
 #include <dlfcn.h>
 #include <errno.h>
@@ -96,6 +96,12 @@ ssize_t pread(int descriptor, void *bytes, size_t size, off_t at) {
                : REAL("pread", ssize_t, int, void *, size_t, off_t)(descriptor, bytes, size, at);
 }
 
+ssize_t pwrite(int descriptor, const void *bytes, size_t size, off_t at) {
+    return is_refused_of("pwrite", descriptor)
+               ? -1
+               : REAL("pwrite", ssize_t, int, const void *, size_t, off_t)(descriptor, bytes, size, at);
+}
+
 ssize_t write(int descriptor, const void *bytes, size_t size) {
     return is_refused_of("write", descriptor)
                ? -1
@@ -104,6 +110,10 @@ ssize_t write(int descriptor, const void *bytes, size_t size) {
 
 int fsync(int descriptor) {
     return is_refused_of("fsync", descriptor) ? -1 : REAL("fsync", int, int)(descriptor);
+}
+
+int fdatasync(int descriptor) {
+    return is_refused_of("fdatasync", descriptor) ? -1 : REAL("fdatasync", int, int)(descriptor);
 }
 
 int ftruncate(int descriptor, off_t size) {

@@ -2,6 +2,7 @@
 
 from typing import NamedTuple
 
+from .bits import low_bound, parent_of
 from .command_line import WrongWords, calling_of, converting_of, pairing_of
 from .file_reader import file_of, value_in
 from .grammar import printed
@@ -10,7 +11,7 @@ from .page_reader import READ, Fault
 from .placed_file import DRAWN, is_placed, placed_file, stamp_after, stamps_of
 from .placed_reader import PlacedReader
 from .script import text_of
-from .version import PLACED
+from .version import NUMBER_LIMIT, PLACED
 
 # What stands behind a place's name in that of the file beside it, and for where that is another's, in those of others.
 BESIDE = ".exhash-saving"
@@ -78,14 +79,31 @@ def got(name, key, files):
 
 
 def changed(name, call, files):
-    """A call over the file of a name, which is saved there where the call is done, and else left as it was."""
-    file = file_of(content_at(name, files))
+    """A call over the file of a name, which is saved there where the call is done, and else left as it was. Of a file of
+    version 3 it refuses what a get of the key does."""
+    content = content_at(name, files)
+    if is_placed(content):
+        value_in(content, call.key)
+    file = file_of(content)
     reply = put(file, call)
     lines = [" ".join([reply.word] + ([] if reply.value is None else [printed(reply.value)]))]
     if reply.word not in DONE:
         return Outcome(lines, 3, files)
+    if is_placed(files[name]) and call.word == "del":
+        merge_once(file, call.key)
     outcome = saved(lines, bytes_again(file.opened(), files[name]), files, name)
     return outcome._replace(lines=[]) if outcome.status else outcome
+
+
+def merge_once(file, key):
+    """Merges the page that a key left with its buddy, where both are live and at most half full together."""
+    ward, pseudokey = file.ward_of(key), file.pseudokey(key)
+    leaf = next(leaf for leaf in ward.leaves if pseudokey.startswith(leaf))
+    parent = parent_of(leaf) if len(leaf) > file.ward_bits else None
+    if parent is None or not {parent + "0", parent + "1"} <= ward.leaves or file.count_under(parent) > file.cap // 2:
+        return
+    if ward.table()[parent].version < NUMBER_LIMIT:
+        file.merge(ward.number, ward.page_at(low_bound(parent)))
 
 
 def converted(name, new, version, files):

@@ -6,6 +6,7 @@ from dataclasses import dataclass, field
 from typing import NamedTuple
 
 from .broken_ways import broken
+from .command_line import calling_of
 from .dice import (
     COPIES,
     WRONG_BYTES,
@@ -19,9 +20,10 @@ from .dice import (
     value_by,
     wrong_file_line,
 )
-from .file_reader import file_of
+from .file_reader import file_of, value_in
 from .other_files import damaged, strange
-from .page_file import bytes_of_file, has_room
+from .page_file import BLOCK, bytes_of_file, has_room
+from .page_reader import Fault
 from .placed_file import is_placed, placed_file, shuffled
 from .program import bytes_again, outcome_of
 from .version import CURRENT, FIRST, KEY_LIMIT, LIMIT, SCRIPT_LIMIT, VALUE_LIMIT
@@ -235,7 +237,8 @@ class Teller:
             self.story.met[f"damaged file of which a get is {what}"] += 1
         opened = ["serve", "--open", name, "--save", name]
         call = self.call_words(self.dice.choice(("put", "del", "swap")), name, file)
-        words = self.dice.choice((["check", name], ["dump", name], ["pairs", name], opened, call))
+        calls = [call] if not is_placed(content) or is_call_known(self.files[name], call) else []
+        words = self.dice.choice([["check", name], ["dump", name], ["pairs", name], opened, *calls])
         [first, *_] = self.ask(words, b"inflight")
         fault = first.partition(" at ")[0]
         is_refused = fault.startswith(("refused 3", "refused 40"))
@@ -271,6 +274,21 @@ class Teller:
         long_key, long_value = "#" + "61" * (KEY_LIMIT + 1), "#" + "62" * (VALUE_LIMIT + 1)
         wrong = (key, f"{key}  {value}", f"{key} {value} ", f"{self.dice.choice(WRONG_BYTES)} {value}", "# a")
         return self.dice.choice((*wrong, f"{long_key} a", f"a {long_value}", self.dice.choice(WRONG_LINES)))
+
+
+def is_call_known(content, words):
+    """Whether it is known what a call makes of the bytes of a file of version 3, of which it reads only what it needs: where
+    it is legal, or a get of the key is refused, and it ends with a block, of which else standard error tells."""
+    try:
+        file_of(content)
+        return True
+    except Fault:
+        pass
+    try:
+        value_in(content, calling_of(words[0], words[1:])[1].key)
+        return False
+    except Fault:
+        return len(content) % BLOCK == 0
 
 
 def story_of(seed):

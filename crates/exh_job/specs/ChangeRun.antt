@@ -1,5 +1,5 @@
 -- What a put, a del or a swap prints, what of it is saved, and with which status the program then ends.
-use Rattle.std.specs.Prelude.{◌≡◌, ◌⊎◌, ℕ, Bool, true, false, List, [], ◌∷◌, ◌++◌, codes, Option, None, Some}
+use Rattle.std.specs.Prelude.{◌≡◌, ◌⊎◌, ℕ, Bool, true, false, cond, List, [], ◌∷◌, ◌++◌, codes, Option, None, Some}
 use Rattle.exh_calls.specs.declared.call.Call.{Call}
 use Rattle.exh_calls.specs.declared.reply.Reply.{Reply}
 use Rattle.exh_file.specs.Opened.{OpenedState}
@@ -28,6 +28,10 @@ SavesFile path left line (Save one wards) = ⊥
 SavesFile path left line (SaveNew one wards version) = ⊥
 SavesFile path left line (SaveAndTell one wards told) = (path ≡ Some one) × (wards ≡ left) × (told.items ≡ line)
 
+-- the status behind a reply that is printed: whether the call is done
+abbrev pub status_of : Reply → Status
+status_of reply = cond (is_done reply) Done Missing
+
 -- of a writer that held `old` bytes before and `new` ones after, where these are known, and of whether it failed
 module _ (old new : Option (List ℕ)) (failed : Bool) where
   -- memory ran out, or a page is out of reach
@@ -55,3 +59,7 @@ module _ (old new : Option (List ℕ)) (failed : Bool) where
   abbrev pub EndsSaved : Status → List ℕ → Status → Type 0
   EndsSaved Done line result = TellsLine old new failed line Done result
   EndsSaved status line result = (new ≡ old) × (result ≡ status)
+
+  -- the reply of a call that the file has answered by itself
+  abbrev pub TellsReply : Reply → Status → Type 0
+  TellsReply reply result = TellsLine old new failed (reply_line reply) (status_of reply) result ⊎ Refuses result

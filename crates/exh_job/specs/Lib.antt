@@ -9,4 +9,3 @@ pub mod PairsAgain
 pub mod GetRun
 pub mod ChangeRun
 pub mod LoadRun
-pub mod SizeLimit

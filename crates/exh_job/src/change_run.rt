@@ -2,7 +2,7 @@
 ghost use Rattle.std.specs.Prelude.{◌≡◌, [], IsFalse};
 ghost use Rattle.exh_stream.specs.Output.{SameWriter, held, pending, writer_failed};
 ghost use Rattle.exh_job.specs.JobPath.{SavesAt};
-ghost use Rattle.exh_job.specs.ChangeRun.{EndsAnswer, EndsChange, EndsSaved, Refuses, SavesFile};
+ghost use Rattle.exh_job.specs.ChangeRun.{EndsAnswer, EndsChange, EndsSaved, Refuses, SavesFile, TellsReply, status_of};
 
 use crate::last_line::{OUT_OF_MEMORY, print_last, tell_line};
 use crate::{Ending, FileWards, JobPath, Status};
@@ -67,6 +67,31 @@ fn save_and_tell<'w>(save: Option<JobPath<'w>>, wards: FileWards, line: Vec<u8>)
     match save {
         Some(path) => Ending::SaveAndTell { path, wards, line },
         None => Ending::Over(Status::Refused),
+    }
+}
+
+/// Tells the reply of a call that a file has answered by itself, where the file is saved, if the call is done; and says with
+/// which status the program ends. Where memory ran out the line is `refused 10`.
+pub fn tell_answer<W: Write>(alloc: Global, reply: &Reply, output: &mut Output<'_, W>) -> Status
+    requires open { IsFalse (writer_failed output.old) }
+    requires empty { pending output.old ≡ [] }
+    ensures same_writer { SameWriter output.old output.new }
+    ensures told { TellsReply (held W.contents output.old) (held W.contents output.new) (writer_failed output.new) reply.now result }
+{
+    match reply_line(alloc, reply) {
+        Err(_) => refuse(WardFault::Memory, output),
+        Ok(line) => tell_line(&line, status_of(reply), output),
+    }
+}
+
+// The status after a reply that is printed.
+fn status_of(reply: &Reply) -> Status
+    ensures { result ≡ status_of reply.now }
+{
+    if is_done(reply) {
+        Status::Done
+    } else {
+        Status::Missing
     }
 }
 

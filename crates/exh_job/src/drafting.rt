@@ -5,12 +5,12 @@ ghost use Rattle.exh_job.specs.HeldForm.{IsDraftFrom};
 ghost use Rattle.exh_job.specs.declared.status.Status.TheVariants.{Refused};
 
 use crate::saving::refuse_for_memory;
-use crate::stamp::draw_stamp;
 use crate::status::Status;
 use crate::stores::FileWards;
 use exh_command::PageFileVersion;
 use exh_file::{Draft, DraftFault, PlacedForm, Stamps};
 use exh_frames::FileStore;
+use exh_system::draw_stamp;
 use std::alloc::Global;
 use std::io;
 

@@ -80,8 +80,8 @@ fn tell_value<W: Write>(alloc: Global, value: &Value, output: &mut Output<'_, W>
     }
 }
 
-// Prints the line of a refusal, or that there was no memory for it.
-fn tell_refusal<W: Write>(alloc: Global, fault: DirectFault, output: &mut Output<'_, W>)
+/// Prints the line of a refusal, or that there was no memory for it.
+pub(crate) fn tell_refusal<W: Write>(alloc: Global, fault: DirectFault, output: &mut Output<'_, W>)
     requires open { IsFalse (writer_failed output.old) }
     requires empty { pending output.old ≡ [] }
     ensures same_writer { SameWriter output.old output.new }

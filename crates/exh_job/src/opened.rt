@@ -6,15 +6,18 @@ ghost use Rattle.exh_job.specs.declared.status.Status.TheVariants.{Refused};
 
 use crate::held_file::HeldFile;
 use crate::open_run::open_file;
-use crate::said::{Reason, tell_reason, with_reason};
 use crate::saving::{refuse_for_memory, refuse_save};
+use crate::standard::refuse_unread;
 use crate::status::Status;
 use crate::stores::FileWards;
 use crate::watch::reading_meter;
+use exh_in_place::hold_still;
 use exh_notes::ReasonReader;
 use exh_path::{DiskFault, Lock, OpenedFile, SystemDisk, open_above};
 use exh_stream::{ClearingWriter, MeteredReader, Output};
+use exh_system::{Reason, tell_reason, with_reason};
 use std::cell::Cell;
+use std::fs::File;
 use std::io;
 
 // How often a file is opened anew that another run replaced before it was locked.
@@ -109,15 +112,39 @@ fn read_opened<'w>(
         Ok(seen) => Ok(seen.opened()),
         Err(error) => Err(*error),
     };
+    let is_held = is_held_still(rt, path, opened)?;
     let meter = reading_meter(rt, opened.ok());
     let counted = opened.map(|file| MeteredReader::new(ReasonReader::new(file, reason), &meter));
     let mut writer = ClearingWriter::new(io::writer(rt), &meter);
     let found = open_file(rt.alloc(), counted, &mut Output::new(&mut writer));
     meter.clear();
     tell_reason(rt, path, reason);
+    if is_held {
+        unlock(opened);
+    }
     match (found, seen) {
         (Ok((wards, form)), Ok(seen)) => Ok((wards, HeldFile { path, seen, form })),
         (Err(status), _) => Err(status),
         (Ok(_), Err(_)) => Err(Status::Refused),
+    }
+}
+
+// Whether an opened file is kept from writers while it is read, as one that is changed in place is.
+fn is_held_still(rt: &HostRuntime, path: &str, opened: io::Result<&File>) -> Result<bool, Status>
+    ensures err { IfErr result (λ status. status ≡ Refused) }
+{
+    let Ok(file) = opened else {
+        return Ok(false);
+    };
+    match hold_still(rt, path, file) {
+        Ok(is_held) => Ok(is_held),
+        Err(refused) => Err(refuse_unread(rt, path, refused)),
+    }
+}
+
+// Lets writers at a file again. Where that fails they wait until it is dropped.
+fn unlock(opened: io::Result<&File>) {
+    if let Ok(file) = opened {
+        let _ = file.unlock();
     }
 }

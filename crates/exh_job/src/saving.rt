@@ -1,21 +1,22 @@
 //! Where the wards that a run leaves are saved, and what standard error says of that.
 ghost use Rattle.std.specs.Prelude.{◌≡◌, ◌⊎◌};
-ghost use Rattle.exh_job.specs.declared.status.Status.TheVariants.{Done, Refused};
+ghost use Rattle.exh_job.specs.declared.status.Status.TheVariants.{Done, Refused as Ended};
 
 use crate::drafting::{drafted, drafted_anew};
 use crate::form_saved::form_saved;
 use crate::held_file::HeldFile;
 use crate::job_path::JobPath;
 use crate::last_line::print_out_of_memory;
-use crate::size_limit::above_limit;
 use crate::status::Status;
 use crate::stores::FileWards;
 use crate::watch::saving_meter;
 use exh_command::PageFileVersion;
-use exh_file::Draft;
+use exh_file::{Draft, PlacedForm};
 use exh_frames::FileStore;
+use exh_in_place::{Refused, save_in_place, settle_before};
 use exh_path::{DiskFault, OpenedFile, SystemDisk, look_at, save_at};
 use exh_stream::Output;
+use exh_system::{InPlaceFault, above_limit};
 use std::{fs, io};
 
 /// Says on standard error why a path can't be saved to, where that can be told before the run.
@@ -40,17 +41,51 @@ pub fn save_at_path(
     held: Option<&HeldFile<'_>>,
     wards: FileWards,
 ) -> Status
-    ensures { (result ≡ Done) ⊎ (result ≡ Refused) }
+    ensures { (result ≡ Done) ⊎ (result ≡ Ended) }
 {
     let path = save.path();
     let form = form_saved(path, held);
-    if let Some(above) = above_limit(rt, path, &wards, form.is_some()) {
+    if let Some(above) = above_limit(rt, path, &wards.header(), form.is_some()) {
         let _ = eprintln!(rt; "exhash: not saved to {path:?}: {above}");
         return Status::Refused;
     }
-    match drafted(rt, path, form, wards) {
-        Ok(draft) => save_draft(rt, path, seen_in(held), draft),
-        Err(status) => status,
+    match (drafted(rt, path, form, wards), form, held) {
+        (Ok(draft), Some(form), Some(held)) => save_over(rt, path, held, form, draft),
+        (Ok(draft), _, _) => save_draft(rt, path, seen_in(held), draft),
+        (Err(status), _, _) => status,
+    }
+}
+
+// Saves a draft over the file of version 3 that was opened, of which just the blocks that differ are written.
+fn save_over(
+    rt: &HostRuntime,
+    path: &str,
+    held: &HeldFile<'_>,
+    form: &PlacedForm,
+    draft: Draft<FileStore>,
+) -> Status
+    ensures { (result ≡ Done) ⊎ (result ≡ Ended) }
+{
+    match save_in_place(rt, path, held.seen.opened(), form.stamp, draft) {
+        Ok(()) => Status::Done,
+        Err(refused) => refuse_in_place(rt, path, refused),
+    }
+}
+
+/// Says why a file isn't changed in place, and gives the status with which the program ends.
+pub(crate) fn refuse_in_place(rt: &HostRuntime, path: &str, refused: Refused) -> Status
+    ensures { result ≡ Ended }
+{
+    match refused {
+        Refused::Unfit(InPlaceFault::Memory) => refuse_for_memory(rt),
+        refused if refused.may_be_saved() => {
+            let _ = eprintln!(rt; "exhash: {path:?}: {refused}");
+            Status::Refused
+        }
+        refused => {
+            let _ = eprintln!(rt; "exhash: not saved to {path:?}: {refused}");
+            Status::Refused
+        }
     }
 }
 
@@ -63,7 +98,7 @@ pub fn save_new(
     wards: FileWards,
     version: PageFileVersion,
 ) -> Status
-    ensures { (result ≡ Done) ⊎ (result ≡ Refused) }
+    ensures { (result ≡ Done) ⊎ (result ≡ Ended) }
 {
     let path = save.path();
     if is_taken(rt, path) {
@@ -71,7 +106,7 @@ pub fn save_new(
         return Status::Refused;
     }
     let is_placed = matches!(version, PageFileVersion::Third);
-    if let Some(above) = above_limit(rt, path, &wards, is_placed) {
+    if let Some(above) = above_limit(rt, path, &wards.header(), is_placed) {
         let _ = eprintln!(rt; "exhash: not saved to {path:?}: {above}");
         return Status::Refused;
     }
@@ -104,8 +139,11 @@ pub(crate) fn save_draft(
     seen: Option<&OpenedFile>,
     draft: Draft<FileStore>,
 ) -> Status
-    ensures { (result ≡ Done) ⊎ (result ≡ Refused) }
+    ensures { (result ≡ Done) ⊎ (result ≡ Ended) }
 {
+    if let Err(refused) = settle_before(rt, path) {
+        return refuse_in_place(rt, path, refused);
+    }
     let meter = saving_meter(rt);
     let mut disk = SystemDisk::new(rt);
     let (saved, _draft) = save_at(rt.alloc(), &mut disk, path, seen, draft, &meter);
@@ -123,7 +161,7 @@ pub(crate) fn save_draft(
 
 /// Says why a path isn't saved to, and gives the status with which the program ends.
 pub(crate) fn refuse_save(rt: &HostRuntime, path: &str, fault: DiskFault) -> Status
-    ensures { result ≡ Refused }
+    ensures { result ≡ Ended }
 {
     match fault {
         DiskFault::Memory => refuse_for_memory(rt),
@@ -136,7 +174,7 @@ pub(crate) fn refuse_save(rt: &HostRuntime, path: &str, fault: DiskFault) -> Sta
 
 /// Says that memory ran out, and gives the status with which the program ends.
 pub(crate) fn refuse_for_memory(rt: &HostRuntime) -> Status
-    ensures { result ≡ Refused }
+    ensures { result ≡ Ended }
 {
     let _ = print_out_of_memory(&mut Output::new(&mut io::writer(rt)));
     Status::Refused

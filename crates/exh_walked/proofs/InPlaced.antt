@@ -51,6 +51,8 @@ use Rattle.exh_direct.specs.StandingBlocks.{bytes_of_block}
 use Rattle.exh_walked.specs.declared.walk_block.WalkBlock.{WalkBlock}
 use Rattle.exh_walked.specs.CellWalk.{ComesTo, EndsAt, IsCellAt}
 use Rattle.exh_walked.specs.PlacedAnswer.{FailsAtEnd, FailsAtLeaf, FailsInWalk, FindsPlaced, HasValue, IsPagePlaced, NamesPlace, RefusesBehind, RefusesPlaced, pseudokey_in}
+use Rattle.exh_walked.specs.declared.home.Home.{Home}
+use Rattle.exh_walked.specs.PlacedHome.{ComesHome, FailsAtHome, FailsToHome, IsHomeIn}
 use Rattle.exh_walked.specs.PlacedLaws.{FindsInPlaced, map_in}
 use Rattle.exh_walked.specs.WalkBlocks.{AreBlocksOf, HeaderFails, IsBlockOf, IsHeaderAt, WalkFails, cells_in, groups_read, pages_in}
 use Rattle.exh_walked.proofs.Blocks.{all_at}
@@ -130,12 +132,9 @@ module _ (laws : Laws) (file : PlacedFile) (tables : List TableMap) (bytes : Lis
       let passed = laws.walks_pass count (in_group group file.cells) (block_at place bytes) (walk_there group some) (length-cells_in group some) in
       no_fault (WalkFails count place) bytes place fault stands.whole (λ (fault : FileFault). λ (named : WalkFails count place (block_at place bytes) fault). none_image_first _ _ named.0 named.1 passed) fails
 
-  -- ---- the page of a key
+  -- ---- the page of a pseudokey
 
-  module _ (key : List ℕ) where
-    abbrev k : ℕ
-    k = pseudokey_in file.header key
-
+  module _ (k : ℕ) (fits : k < 2 ^ 64) where
     abbrev w : ℕ
     w = ward_of bits k
 
@@ -174,7 +173,7 @@ module _ (laws : Laws) (file : PlacedFile) (tables : List TableMap) (bytes : Lis
           let number = numbers_in bits w (take placed.page (lows_of file.pages)) in
           let leaf : Leaf = record { prefix = placed.prefix; page = number } in
           let on = here placed ends.0 in
-          let names = laws.homes file.header.settings.cap pseudo (ward_prefix bits w) own_table [] own_table own_pages k (own_ward file tables legal.is.valid legal.legal w w_less) (any_pseudokey-lt file.header.settings.keyer key) front_begins in
+          let names = laws.homes file.header.settings.cap pseudo (ward_prefix bits w) own_table [] own_table own_pages k (own_ward file tables legal.is.valid legal.legal w w_less) fits front_begins in
           let goes : walk_in own_table (ward_prefix bits w) k ≡ walk_of own_table bits k = (λ i. walk_in own_table (front i) k) in
           let comes : leaf ≡ walk_of own_table bits k = walk_ends laws.slots file tables legal.is.valid legal.legal k blocks same_cells placed ends in
           let named : walk_of own_table bits k ≡ names.leaf = sym goes ∙ names.walk in
@@ -185,18 +184,6 @@ module _ (laws : Laws) (file : PlacedFile) (tables : List TableMap) (bytes : Lis
           let standing : IsAt own_pages number page.0 = numbered bits w file.pages placed.page page.0 page.1 own in
           let one = page_at_number own_pages number page.0 (Live placed.prefix live.0 live.1) standing live.2 in
           record { right = live.0; records = live.1; at = subst (λ (page : Page). slice_get file.pages placed.page ≡ Some page) one page.1; own = live.2; begins = on.on.begins }
-
-      -- ---- its value
-
-      value_is : (placed : Leaf) (home : HasHome placed) → value_at (k, key) home.records ≡ get (map_in file) key
-      value_is placed home =
-          let cap = file.header.settings.cap in
-          let wards = wards_of file in
-          let legal_pages = (own_ward file tables legal.is.valid legal.legal w w_less).legal.legal in
-          let all_legal = legal_from cap pseudo bits 0 wards (λ number pages there.
-          (let same : number ≡ 0 + number = omega arith in subst (λ (n : ℕ). IsLegal cap pseudo (ward_prefix bits n) pages) same (legal.legal.legal.wards number pages there).legal.legal)) in
-          sym (get_in_ward cap pseudo bits w wards own_pages key all_legal (count_of_wards file tables legal.is.valid legal.legal) (ward_there file tables legal.is.valid legal.legal w w_less) legal_pages.each front_begins
-          ∙ get-map_of cap pseudo (ward_prefix bits w) own_pages _ (Live placed.prefix home.right home.records) key legal_pages home.own home.begins)
 
       -- ---- its block
 
@@ -214,21 +201,71 @@ module _ (laws : Laws) (file : PlacedFile) (tables : List TableMap) (bytes : Lis
           let passed = (laws.pages_pass second_version fits_second pseudo (block_at place bytes) (length-take-le 4096 (bytes_from place bytes) stands.whole) (bytes_of_block place bytes small)).0 (own, image) in
           no_fault (PageFails second_version pseudo place) bytes place fault stands.whole (λ (fault : FileFault). λ (named : PageFails second_version pseudo place (block_at place bytes) fault). none_image_first _ _ named.0 named.1 passed) fails
 
+    -- ---- no fault
+
+    no_leaf_fault : (old new : Option (List ℕ)) (blocks : List WalkBlock) (placed : Leaf) (fault : DirectFault) → AreBlocksOf (Some bytes) file.header blocks → ComesTo bits k blocks placed → FailsAtLeaf (Some bytes) file.header placed old new blocks fault → IsOtherFault fault
+    no_leaf_fault old new blocks placed fault are come (inl (short, there, next)) = no_walk_fault (group_in placed.page) fault (omega (arith, there, all_pages)) next.fails
+    no_leaf_fault old new blocks placed fault are come (inr (outside, none, astray)) =
+        let on = here blocks are placed come in
+        absurd (omega (arith, outside, all_pages, length-lows file tables legal.is.valid legal.legal, slice_get_within (lows_of file.pages) placed.page (low_of placed.prefix) on.low))
+
+    no_home_fault : (known_first between : Option (List ℕ)) (place : ℕ) (fault : DirectFault) → NamesPlace (Some bytes) file.header k known_first between place → FailsAtHome (Some bytes) file.header k place fault → IsOtherFault fault
+    no_home_fault head between place fault names (inl fails) =
+        let home = has_home names.blocks names.read.are names.leaf names.ends in
+        no_page_fault names.blocks names.read.are names.leaf home fault (subst (λ (place : ℕ). BlockFails (PageFails second_version pseudo (page_block_of place)) (Some bytes) (page_block_of place) fault) names.is fails)
+    no_home_fault head between place fault names (inr (page, there, not, astray)) =
+        let home = has_home names.blocks names.read.are names.leaf names.ends in
+        let same = same_page names.blocks names.read.are names.leaf home page (subst (λ (place : ℕ). IsPagePlaced (Some bytes) file.header place page) names.is there) in
+        absurd (not (subst (λ (page : Page). IsHome page k) (sym same) home.begins))
+
+    no_straying : (old new : Option (List ℕ)) (fault : DirectFault) → FailsToHome (Some bytes) file.header k old new fault → IsOtherFault fault
+    no_straying old new fault (inl walk) = no_leaf_fault walk.between new walk.blocks walk.leaf fault walk.read.are walk.comes walk.fails
+    no_straying old new fault (inr (place, between, names, fails)) = no_home_fault old between place fault names fails
+
+    comes_home : (old : Option (List ℕ)) (home : Home) → ComesHome (Some bytes) file.header k old home → IsHomeIn file k home
+    comes_home old home comes =
+        let names = comes.names in
+        let own = has_home names.blocks names.read.are names.leaf names.ends in
+        let same = same_page names.blocks names.read.are names.leaf own home.page (subst (λ (place : ℕ). IsPagePlaced (Some bytes) file.header place home.page) names.is comes.there) in
+        record {
+          there = ap (slice_get file.pages) names.is ∙ own.at ∙ ap (λ (page : Page). Some page) (sym same);
+          is = comes.own;
+        }
+
+  -- ---- the value of a key
+
+  module _ (key : List ℕ) where
+    abbrev k_of : ℕ
+    k_of = pseudokey_in file.header key
+
+    abbrev k_fits : k_of < 2 ^ 64
+    k_fits = any_pseudokey-lt file.header.settings.keyer key
+
+    value_is : (blocks : List WalkBlock) (are : AreBlocksOf (Some bytes) file.header blocks) (placed : Leaf) (home : HasHome k_of k_fits placed) → value_at (k_of, key) home.records ≡ get (map_in file) key
+    value_is blocks are placed home =
+        let cap = file.header.settings.cap in
+        let wards = wards_of file in
+        let legal_pages = (own_ward file tables legal.is.valid legal.legal (w k_of k_fits) (w_less k_of k_fits)).legal.legal in
+        let all_legal = legal_from cap pseudo bits 0 wards (λ number pages there.
+        (let same : number ≡ 0 + number = omega arith in subst (λ (n : ℕ). IsLegal cap pseudo (ward_prefix bits n) pages) same (legal.legal.legal.wards number pages there).legal.legal)) in
+        sym (get_in_ward cap pseudo bits (w k_of k_fits) wards (own_pages k_of k_fits) key all_legal (count_of_wards file tables legal.is.valid legal.legal) (ward_there file tables legal.is.valid legal.legal (w k_of k_fits) (w_less k_of k_fits)) legal_pages.each (front_begins k_of k_fits blocks are)
+        ∙ get-map_of cap pseudo (ward_prefix bits (w k_of k_fits)) (own_pages k_of k_fits) _ (Live placed.prefix home.right home.records) key legal_pages home.own home.begins)
+
     -- ---- the answer
 
     groups_within : (blocks : List WalkBlock) → AllByRecursion (IsBlockOf (Some bytes) file.header) blocks → AllByRecursion (λ (group : ℕ). 24 * group < length file.pages) (groups_read blocks)
     groups_within [] all = tt
     groups_within (block ∷ blocks) all = (omega (arith, all.0.within, all_pages), groups_within blocks all.1)
 
-    found_in : (old head between new : Option (List ℕ)) (place : ℕ) (value : Option (List ℕ)) → Appends old head (0 ∷ []) → NamesPlace (Some bytes) file.header k head between place → HasValue (Some bytes) file.header key between new place value → FindsInPlaced file key old new value
+    found_in : (old head between new : Option (List ℕ)) (place : ℕ) (value : Option (List ℕ)) → Appends old head (0 ∷ []) → NamesPlace (Some bytes) file.header k_of head between place → HasValue (Some bytes) file.header key between new place value → FindsInPlaced file key old new value
     found_in old head between new place value heads names found =
         let blocks = names.blocks in
         let are = names.read.are in
         let placed = names.leaf in
-        let home = has_home blocks are placed names.ends in
-        let page = same_page blocks are placed home found.page (subst (λ (place : ℕ). IsPagePlaced (Some bytes) file.header place found.page) names.is found.there) in
+        let home = has_home k_of k_fits blocks are placed names.ends in
+        let page = same_page k_of k_fits blocks are placed home found.page (subst (λ (place : ℕ). IsPagePlaced (Some bytes) file.header place found.page) names.is found.there) in
         record {
-          is = found.is ∙ ap (λ (page : Page). value_at (k, key) (records_of page)) page ∙ value_is blocks are placed home;
+          is = found.is ∙ ap (λ (page : Page). value_at (k_of, key) (records_of page)) page ∙ value_is blocks are placed home;
           groups = groups_read blocks;
           within = groups_within blocks are.each;
           once = are.once;
@@ -238,25 +275,19 @@ module _ (laws : Laws) (file : PlacedFile) (tables : List TableMap) (bytes : Lis
           reads = Appends-trans old head new (0 ∷ []) _ heads (Appends-trans head between new _ (page_block_of place ∷ []) (subst (Appends head between) (places_by_group blocks) names.read.reads) found.reads);
         }
 
-    no_leaf_fault : (old new : Option (List ℕ)) (blocks : List WalkBlock) (placed : Leaf) (fault : DirectFault) → AreBlocksOf (Some bytes) file.header blocks → ComesTo bits k blocks placed → FailsAtLeaf (Some bytes) file.header placed old new blocks fault → IsOtherFault fault
-    no_leaf_fault old new blocks placed fault are come (inl (short, there, next)) = no_walk_fault (group_in placed.page) fault (omega (arith, there, all_pages)) next.fails
-    no_leaf_fault old new blocks placed fault are come (inr (outside, none, astray)) =
-        let on = here blocks are placed come in
-        absurd (omega (arith, outside, all_pages, length-lows file tables legal.is.valid legal.legal, slice_get_within (lows_of file.pages) placed.page (low_of placed.prefix) on.low))
-
-    no_end_fault : (head between new : Option (List ℕ)) (place : ℕ) (fault : DirectFault) → NamesPlace (Some bytes) file.header k head between place → FailsAtEnd (Some bytes) file.header key between new place fault → IsOtherFault fault
+    no_end_fault : (head between new : Option (List ℕ)) (place : ℕ) (fault : DirectFault) → NamesPlace (Some bytes) file.header k_of head between place → FailsAtEnd (Some bytes) file.header key between new place fault → IsOtherFault fault
     no_end_fault head between new place fault names (inl (fails, last)) =
-        let home = has_home names.blocks names.read.are names.leaf names.ends in
-        no_page_fault names.blocks names.read.are names.leaf home fault (subst (λ (place : ℕ). BlockFails (PageFails second_version pseudo (page_block_of place)) (Some bytes) (page_block_of place) fault) names.is fails)
+        let home = has_home k_of k_fits names.blocks names.read.are names.leaf names.ends in
+        no_page_fault k_of k_fits names.blocks names.read.are names.leaf home fault (subst (λ (place : ℕ). BlockFails (PageFails second_version pseudo (page_block_of place)) (Some bytes) (page_block_of place) fault) names.is fails)
     no_end_fault head between new place fault names (inr (page, there, not, read, astray)) =
-        let home = has_home names.blocks names.read.are names.leaf names.ends in
-        let same = same_page names.blocks names.read.are names.leaf home page (subst (λ (place : ℕ). IsPagePlaced (Some bytes) file.header place page) names.is there) in
-        absurd (not (subst (λ (page : Page). IsHome page k) (sym same) home.begins))
+        let home = has_home k_of k_fits names.blocks names.read.are names.leaf names.ends in
+        let same = same_page k_of k_fits names.blocks names.read.are names.leaf home page (subst (λ (place : ℕ). IsPagePlaced (Some bytes) file.header place page) names.is there) in
+        absurd (not (subst (λ (page : Page). IsHome page k_of) (sym same) home.begins))
 
     no_refusal_behind : (old new : Option (List ℕ)) (fault : DirectFault) (other : StampedHeader) → RefusesBehind (Some bytes) key old new fault other → IsOtherFault fault
     no_refusal_behind old new fault other (head_is, head, heads, inl fails) =
         let walk = subst (λ (header : StampedHeader). FailsInWalk (Some bytes) header (pseudokey_in header key) head new fault) (same_header other head_is) fails in
-        no_leaf_fault walk.between new walk.blocks walk.leaf fault walk.read.are walk.comes walk.fails
+        no_leaf_fault k_of k_fits walk.between new walk.blocks walk.leaf fault walk.read.are walk.comes walk.fails
     no_refusal_behind old new fault other (head_is, head, heads, inr (place, between, names, fails)) =
         let same = same_header other head_is in
         no_end_fault head between new place fault (subst (λ (header : StampedHeader). NamesPlace (Some bytes) header (pseudokey_in header key) head between place) same names)
@@ -280,3 +311,10 @@ every laws known old new key (Ok value) found refused file tables bytes knows sm
     finds_in_file laws file tables bytes small legal key old new value (subst (λ (known : Option (List ℕ)). FindsPlaced known key old new value) knows found)
 every laws known old new key (Err fault) found refused file tables bytes knows small legal =
     no_refusal laws file tables bytes small legal key old new fault (subst (λ (known : Option (List ℕ)). RefusesPlaced known key old new fault) knows refused)
+
+pub every_home : Laws → (known old new : Option (List ℕ)) (header : StampedHeader) (k : ℕ) → k < 2 ^ 64 → (result : Result Home DirectFault) → IfOk result (ComesHome known header k old) → IfErr result (FailsToHome known header k old new)
+    → (file : PlacedFile) (tables : List TableMap) (bytes : List ℕ) → known ≡ Some bytes → AreBytes bytes → IsLegalPlacedFile file tables bytes → file.header ≡ header → MatchResult result (IsHomeIn file k) IsOtherFault
+every_home laws known old new header k fits (Ok home) found refused file tables bytes knows small legal same =
+    comes_home laws file tables bytes small legal k fits old home (subst (λ (known : Option (List ℕ)). ComesHome known file.header k old home) knows (subst (λ (header : StampedHeader). ComesHome known header k old home) (sym same) found))
+every_home laws known old new header k fits (Err fault) found refused file tables bytes knows small legal same =
+    no_straying laws file tables bytes small legal k fits old new fault (subst (λ (known : Option (List ℕ)). FailsToHome known file.header k old new fault) knows (subst (λ (header : StampedHeader). FailsToHome known header k old new fault) (sym same) refused))

@@ -83,8 +83,8 @@ fn find_on_way<B: Blocks>(
     Ok(page.find(pseudokey, key))
 }
 
-// Whether a page is live and its prefix begins a pseudokey.
-fn is_home(page: &Page, pseudokey: u64) -> bool
+/// Whether a page is live and its prefix begins a pseudokey.
+pub(crate) fn is_home(page: &Page, pseudokey: u64) -> bool
     ensures { IsTrue result ↔ IsHome page.now pseudokey }
 {
     match page {

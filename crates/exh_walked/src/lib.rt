@@ -4,11 +4,16 @@
 
 pub use any::find_any;
 pub use finding::find_placed;
+pub use home::Home;
+pub use homing::find_home;
+pub use search::page_count;
 
 mod any;
 #[cfg(test)]
 mod examples;
 mod finding;
+mod home;
+mod homing;
 mod named;
 mod reading;
 mod search;

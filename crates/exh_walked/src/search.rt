@@ -1,4 +1,4 @@
-ghost use Rattle.std.specs.Prelude.{◌≡◌, ◌<◌, ◌*◌, ◌^◌, length, nat_eq, false, IfOk, IfErr, IfSome, IfNone};
+ghost use Rattle.std.specs.Prelude.{◌≡◌, ◌<◌, ◌≤◌, ◌*◌, ◌^◌, length, nat_eq, false, IfOk, IfErr, IfSome, IfNone};
 ghost use Rattle.std.specs.List.{list_any, sum};
 ghost use Rattle.exh_prefix.specs.declared.prefix.TheConstants.{LIMIT};
 ghost use Rattle.exh_cells.specs.declared.places.TheConstants.{GROUP_PAGES};
@@ -16,10 +16,11 @@ use exh_format::push_item;
 use exh_table::Leaf;
 use std::alloc::Global;
 
-/// How many pages a file has.
-pub(crate) fn page_count(header: &StampedHeader) -> u32
+/// How many pages a file has, at most 2^20.
+pub fn page_count(header: &StampedHeader) -> u32
     requires { IsStampedHeader header.now }
-    ensures { result ≡ pages_in header.now }
+    ensures count { result ≡ pages_in header.now }
+    ensures few { result ≤ 2 ^ 20 }
 {
     total(&header.page_counts)
 }

@@ -140,7 +140,7 @@ returns-then-leaf-pages-clause-err g c =
       few = omega (arith, told.few, short);
       leaf = c.step-leaf.result;
       comes = gone.come;
-      fails = inr (omega (arith, c.if-leaf-pages.true, c.page_count-pages.ensures), Appends-nil (g.B.Blocks.reads c.slot_at.new.blocks), refl);
+      fails = inr (omega (arith, c.if-leaf-pages.true, c.page_count-pages.ensures.count), Appends-nil (g.B.Blocks.reads c.slot_at.new.blocks), refl);
     }
 
 pub loop-alloc-preserved : goal.loop-alloc-preserved
@@ -156,7 +156,7 @@ loop-alloc-preserved g c =
       same = c.in_ok-slot.ensures.same_bytes ∙ c.loop-alloc.invariant.same;
       on_way = gone.on_way;
       come = gone.come;
-      there = omega (arith, c.if-leaf-pages.false, c.page_count-pages.ensures);
+      there = omega (arith, c.if-leaf-pages.false, c.page_count-pages.ensures.count);
       read = told.read;
       few = omega (arith, told.few, gone.longer);
     }

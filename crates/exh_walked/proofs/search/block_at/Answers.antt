@@ -22,7 +22,7 @@ returns-clause-taken g c =
     let block : WalkBlock = record { group = group; cells = c.in_ok-cells.cells } in
     let is : IsBlockOf known header block = record {
       within = c.requires.within;
-      count = omega (arith, c.in_ok-cells.ensures.count, c.min-cells.ensures, c.page_count.ensures, c.in_ok-cells.cells.ok.0);
+      count = omega (arith, c.in_ok-cells.ensures.count, c.min-cells.ensures, c.page_count.ensures.count, c.in_ok-cells.cells.ok.0);
       is = subst (λ (place : ℕ). IsWalkBlock known place c.in_ok-cells.cells.items) place c.in_ok-cells.ensures.ok;
     } in
     inr (record {

@@ -1,0 +1,10 @@
+pub mod EditLists
+pub mod Counts
+pub mod Formed
+pub mod OfFile
+pub mod Rooms
+pub mod Homes
+pub mod SplitSteps
+pub mod MergeSteps
+pub mod Answered
+pub mod Left

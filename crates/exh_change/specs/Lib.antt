@@ -1,0 +1,4 @@
+pub mod EditList
+pub mod Drafts
+pub mod Changes
+pub mod ChangeLaws

@@ -1,0 +1,6 @@
+pub mod AloneLemmas
+pub mod ChangeLemmas
+pub mod EditLemmas
+pub mod ImageLemmas
+pub mod KnownLemmas
+pub mod PageLemmas

@@ -1,0 +1,5 @@
+pub mod FilePages
+pub mod PagedFile
+pub mod CommitFault
+pub mod Change
+pub mod AloneLaws

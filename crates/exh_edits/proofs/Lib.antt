@@ -1,0 +1,14 @@
+-- of edited_blocks_stand
+pub mod EditedBlocks
+-- of edits one after the other
+pub mod EditLists
+-- of files by their blocks
+pub mod Parts
+pub mod MadeBlocks
+pub mod BlockLengths
+pub mod FileBlocks
+pub mod Standing
+-- of edits of files
+pub mod FileEdits
+-- of blocks that are compared
+pub mod Compared

@@ -1,0 +1,6 @@
+pub mod BlockEdits
+pub mod PlacedEdits
+pub mod EditLaws
+pub mod EditsKeepOthers
+pub mod EditLists
+pub mod Comparison

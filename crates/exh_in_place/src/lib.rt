@@ -1,0 +1,17 @@
+//! Page files of version 3 changed in place under the writers' lock, and read while others change them.
+#![tactic(auto)]
+
+pub use call::change_at;
+pub use one_state::{Reading, read_one_state};
+pub use recovery::{recover_at, settle_before};
+pub use refused::Refused;
+pub use saving::save_in_place;
+pub use stillness::hold_still;
+
+mod call;
+mod one_state;
+mod recovery;
+mod refused;
+mod saving;
+mod stillness;
+mod system_files;

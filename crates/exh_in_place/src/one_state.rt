@@ -1,0 +1,61 @@
+//! Reading without a lock: what is read is one state of a file, or it is read again.
+
+use crate::{Refused, recover_at};
+use exh_system::{Begun, InPlaceFault, WAIT, begin_reading, open_regular, pause_after};
+use std::fs::File;
+use std::thread::sleep;
+use std::time::{Duration, Instant};
+
+// As often as a pause of two milliseconds fits into the wait.
+const TURNS: u64 = 500 * WAIT;
+
+/// What is read of an open file, and may be read of it again.
+pub trait Reading {
+    /// What reading gives.
+    type Found: Drop;
+
+    /// Reads it.
+    fn read(&mut self, file: &File) -> Self::Found;
+}
+
+/// Reads the file of a path so that all that is read is one state of it: where it is of version 3, its stamp is looked at
+/// and then its log looked for, before and, in the other order, behind the reading. Else it is read again, for some
+/// seconds. A change that was cut off is recovered, if nobody is at work on the file.
+///
+/// `System`: the file isn't opened, as one that isn't regular, or the system doesn't say what is there. `Restless`: it was
+/// changed all the while. Others: what was cut off isn't recovered.
+pub fn read_one_state<R: Reading>(
+    rt: &HostRuntime,
+    path: &str,
+    reading: &mut R,
+) -> Result<R::Found, Refused> {
+    let start = Instant::now(rt)?;
+    for _ in 0..TURNS {
+        let file = open_regular(rt, path)?;
+        match begin_reading(rt, path, &file)? {
+            Begun::Replaced => return Ok(reading.read(&file)),
+            Begun::State(state) => {
+                let found = reading.read(&file);
+                if state.is_still(rt, &file)? {
+                    return Ok(found);
+                }
+            }
+            Begun::Unsettled => {}
+        }
+        let passed = start.elapsed(rt)?;
+        if passed >= Duration::from_secs(WAIT) {
+            break;
+        }
+        recover_left(rt, path, file)?;
+        sleep(rt, pause_after(passed));
+    }
+    Err(Refused::Unfit(InPlaceFault::Restless))
+}
+
+// Recovers the file of a path, where nobody has its writers' lock.
+fn recover_left(rt: &HostRuntime, path: &str, file: File) -> Result<(), Refused> {
+    match file.try_lock() {
+        Ok(()) => recover_at(rt, path, &file),
+        Err(_) => Ok(()),
+    }
+}

@@ -1,0 +1,79 @@
+use exh_commit::{ChangeFault, CommitFault};
+use exh_direct::DirectFault;
+use exh_edits::DifferingFault;
+use exh_file::SaveFault;
+use exh_paged::{FilesFault, SaveFilesFault};
+use exh_system::InPlaceFault;
+use std::io;
+use thiserror::Error;
+
+/// Why a page file isn't changed in place, or not read beside others that change it.
+#[derive(Debug, Drop, Error)]
+pub enum Refused {
+    /// It can't be, and nothing was changed.
+    #[error("{0}")]
+    Unfit(InPlaceFault),
+    /// What the change reads of it is no legal page file of version 3, and nothing was changed.
+    #[error("{0}")]
+    Damaged(DirectFault),
+    /// The wards that are to be saved over it couldn't be written, and nothing was changed.
+    #[error("{0}")]
+    Unwritten(SaveFault),
+    /// They couldn't be compared with it, and nothing was changed.
+    #[error("{0}")]
+    Uncompared(DifferingFault),
+    /// It wasn't changed, or may have been, as the fault says.
+    #[error("{0}")]
+    Change(ChangeFault),
+}
+
+impl Refused {
+    /// Whether the file may have been changed all the same.
+    pub fn may_be_saved(&self) -> bool {
+        matches!(
+            self,
+            Refused::Change(ChangeFault::Commit(CommitFault::MaybeSaved(_)))
+                | Refused::Change(ChangeFault::LeftInLog(_))
+        )
+    }
+}
+
+impl From<InPlaceFault> for Refused {
+    fn from(fault: InPlaceFault) -> Refused {
+        Refused::Unfit(fault)
+    }
+}
+
+impl From<io::Error> for Refused {
+    fn from(error: io::Error) -> Refused {
+        Refused::Unfit(InPlaceFault::from(error))
+    }
+}
+
+impl From<FilesFault> for Refused {
+    fn from(fault: FilesFault) -> Refused {
+        match fault {
+            FilesFault::OthersLog => Refused::Unfit(InPlaceFault::OthersLog),
+            FilesFault::Header(fault) => Refused::Damaged(DirectFault::File(fault)),
+            FilesFault::Read(error) => Refused::Change(ChangeFault::Open(error)),
+            FilesFault::Change(ChangeFault::Refused(DirectFault::Memory)) => {
+                Refused::Unfit(InPlaceFault::Memory)
+            }
+            FilesFault::Change(ChangeFault::Refused(fault)) => Refused::Damaged(fault),
+            FilesFault::Change(fault) => Refused::Change(fault),
+        }
+    }
+}
+
+impl From<SaveFilesFault> for Refused {
+    fn from(fault: SaveFilesFault) -> Refused {
+        match fault {
+            SaveFilesFault::NotAsOpened => Refused::Unfit(InPlaceFault::NotAsOpened),
+            SaveFilesFault::Draft(SaveFault::Memory) => Refused::Unfit(InPlaceFault::Memory),
+            SaveFilesFault::Draft(fault) => Refused::Unwritten(fault),
+            SaveFilesFault::Content(DifferingFault::Memory) => Refused::Unfit(InPlaceFault::Memory),
+            SaveFilesFault::Content(fault) => Refused::Uncompared(fault),
+            SaveFilesFault::Files(fault) => Refused::from(fault),
+        }
+    }
+}

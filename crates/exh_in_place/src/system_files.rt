@@ -1,0 +1,77 @@
+//! A page file of the system, opened with its log.
+ghost use Rattle.std.specs.Prelude.{true, false, IsTrue, IfOk};
+ghost use Rattle.sqlite_std_file.specs.File.{file_is_usable, IsFresh};
+
+use crate::Refused;
+use exh_cells::StampedHeader;
+use exh_codec::BLOCK_LEN;
+use exh_system::{InPlaceFault, PageLog};
+use sqlite_disk::Files;
+use sqlite_pager::Options;
+use sqlite_std_file::{FileFrom, OpenError, Start, Wary};
+use std::fs::File;
+use std::hash::{BuildHasher, RandomState};
+use std::io;
+use std::os::unix::fs::FileExt;
+
+// How many blocks are kept in memory.
+const KEPT_BLOCKS: usize = 64;
+
+/// A page file of the system, or its log; of a torn write nothing is supposed.
+pub(crate) type SystemBlocks = FileFrom<Wary>;
+
+/// The stamp of a file without its log, `None` where its header is damaged.
+pub(crate) fn own_stamp(file: &File) -> Result<Option<u64>, Refused> {
+    let mut block = [0; BLOCK_LEN];
+    file.read_exact_at(&mut block, 0)?;
+    match StampedHeader::from_block(&block) {
+        Ok(header) => Ok(Some(header.stamp)),
+        Err(_) => Ok(None),
+    }
+}
+
+/// The file of a path without links, and its log, which is made.
+pub(crate) fn opened<S: Start>(
+    rt: &HostRuntime,
+    whole: &str,
+    start: S,
+) -> Result<Files<FileFrom<S>>, Refused>
+    ensures log { IfOk result (λ files. IsTrue (file_is_usable S.Start files.log)) }
+    ensures db { IfOk result (λ files. IsTrue (file_is_usable S.Start files.db)) }
+    ensures fresh { IfOk result (λ files. IsFresh true files.log × IsFresh false files.db) }
+{
+    match sqlite_std_file::open(rt, whole, start) {
+        Ok(files) => Ok(files),
+        Err(OpenError::Io(error)) => Err(Refused::from(error)),
+        Err(OpenError::OutOfMemory) => Err(Refused::Unfit(InPlaceFault::Memory)),
+        Err(OpenError::Busy) => Err(Refused::Unfit(InPlaceFault::Busy)),
+        Err(OpenError::HotJournal) => Err(Refused::Unfit(InPlaceFault::Journal)),
+    }
+}
+
+/// How they are opened: with few blocks in memory.
+pub(crate) fn options(rt: &HostRuntime) -> Result<Options, Refused> {
+    let seed = RandomState::new(rt)?.hash_one(&0u8);
+    let mut options = Options::new(seed);
+    options.cache_pages = KEPT_BLOCKS;
+    Ok(options)
+}
+
+/// Lets the files go, and removes the log where the file alone has all, or the log has no change. The page file is let go
+/// last, so that nobody opens both before.
+pub(crate) fn close(rt: &HostRuntime, whole: &str, is_settled: bool, files: Files<SystemBlocks>) {
+    let Files { log, db } = files;
+    drop(log);
+    // Where the log isn't removed, as by a folder that doesn't let it be, it stays without a change.
+    let _ = remove_log(rt, whole, is_settled);
+    drop(db);
+}
+
+// Removes the log of a file, where the file alone has all, or the log has no change.
+fn remove_log(rt: &HostRuntime, whole: &str, is_settled: bool) -> io::Result<()> {
+    let log = PageLog::of(rt, whole)?;
+    if is_settled || !log.has_change(rt)? {
+        log.remove(rt)?;
+    }
+    Ok(())
+}

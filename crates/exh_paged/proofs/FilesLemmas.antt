@@ -1,0 +1,53 @@
+-- What a crash leaves of files that were opened, asked and given back.
+use Rattle.std.proofs.Common.{◌≡◌, ℕ, List, refl, sym, ap₂, subst, inl, inr}
+use Rattle.sqlite_disk.specs.declared.Disk.{Ghosts}
+use Rattle.sqlite_disk.specs.Disk.{Only}
+use Rattle.sqlite_wal.specs.Files.{seen_image}
+use Rattle.sqlite_wal.specs.Reads.{AreClean}
+use Rattle.sqlite_wal.specs.Recovery.{Image}
+use Rattle.exh_commit.specs.FilePages.{Leaves, LeavesAlone, LeavesAsFound, StandsFor, pages_of}
+
+-- of files that are given back it is left what is left of them, of the bytes that they stood for
+pub leaves_as : {D : Type 0} (g : Ghosts D) (files back : D × D) (P : List ℕ → List ℕ → Type 0) (mid old : List ℕ) → back ≡ files → (AreClean g files.0 files.1 → mid ≡ old) → Leaves g files (P mid) → Leaves g back (P old)
+leaves_as {D} g files back P mid old same is all =
+    subst (λ (pair : D × D). Leaves g pair (P old)) (sym same) (λ left clean may.
+    let (bytes, stands, holds) = all left clean may in
+    (bytes, stands, subst (λ (was : List ℕ). P was bytes) (is clean) holds))
+
+-- the same of the file alone
+pub alone_as : {D : Type 0} (g : Ghosts D) (files back : D × D) (P : List ℕ → List ℕ → Type 0) (mid old : List ℕ) → back ≡ files → (AreClean g files.0 files.1 → mid ≡ old) → LeavesAlone g files (P mid) → LeavesAlone g back (P old)
+alone_as {D} g files back P mid old same is all =
+    subst (λ (pair : D × D). LeavesAlone g pair (P old)) (sym same) (λ left clean may.
+    let (bytes, stands, holds) = all left clean may in
+    (bytes, stands, subst (λ (was : List ℕ). P was bytes) (is clean) holds))
+
+pub leaves_more : {D : Type 0} (g : Ghosts D) (files : D × D) (P Q : List ℕ → Type 0) → ((bytes : List ℕ) → P bytes → Q bytes) → Leaves g files P → Leaves g files Q
+leaves_more g files P Q more all left clean may =
+    let (bytes, stands, holds) = all left clean may in
+    (bytes, stands, more bytes holds)
+
+pub leaves_when : {D : Type 0} (g : Ghosts D) (files back : D × D) (P Q : List ℕ → Type 0) → back ≡ files → (AreClean g files.0 files.1 → (bytes : List ℕ) → P bytes → Q bytes) → Leaves g files P → Leaves g back Q
+leaves_when {D} g files back P Q same more all =
+    subst (λ (pair : D × D). Leaves g pair Q) (sym same) (λ left clean may.
+    let (bytes, stands, holds) = all left clean may in
+    (bytes, stands, more clean bytes holds))
+
+pub alone_when : {D : Type 0} (g : Ghosts D) (files back : D × D) (P Q : List ℕ → Type 0) → back ≡ files → (AreClean g files.0 files.1 → (bytes : List ℕ) → P bytes → Q bytes) → LeavesAlone g files P → LeavesAlone g back Q
+alone_when {D} g files back P Q same more all =
+    subst (λ (pair : D × D). LeavesAlone g pair Q) (sym same) (λ left clean may.
+    let (bytes, stands, holds) = all left clean may in
+    (bytes, stands, more clean bytes holds))
+
+pub clean_as : {D : Type 0} (g : Ghosts D) (files back : D × D) → back ≡ files → AreClean g back.0 back.1 → AreClean g files.0 files.1
+clean_as {D} g files back same clean = subst (λ (pair : D × D). AreClean g pair.0 pair.1) same clean
+
+-- files that couldn't be opened leave what they stood for
+pub found_leaves : {D : Type 0} (g : Ghosts D) (old new : D × D) (was : List ℕ) → Only (g.seen old.0) (g.may_leave old.0) → Only (g.seen old.1) (g.may_leave old.1) → StandsFor (seen_image g old.0 old.1) was → LeavesAsFound g old new → Leaves g new (λ bytes. bytes ≡ was)
+found_leaves {D} g old new was log_synced db_synced found kept left clean may =
+    elim (kept left clean may) [
+      | inl before ↦
+          let of_two : List ℕ → List ℕ → Image = λ log db. record { log = log; db = db } in
+          let is : left ≡ seen_image g old.0 old.1 = ap₂ of_two (log_synced left.log before.0) (db_synced left.db before.1) in
+          (was, subst (λ (image : Image). StandsFor image was) (sym is) found, refl)
+      | inr as_found ↦ (was, record { count = found.count; whole = found.whole; recovers = as_found (pages_of was) found.recovers }, refl)
+    ]

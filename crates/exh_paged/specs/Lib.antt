@@ -1,0 +1,5 @@
+pub mod OwnLog
+pub mod FilesFault
+pub mod Saving
+pub mod SaveFilesFault
+pub mod CallChange

@@ -1,0 +1,21 @@
+use exh_commit::ChangeFault;
+use exh_format::FileFault;
+use sqlite_pager::Error;
+use thiserror::Error as Fault;
+
+/// Why a page file wasn't changed, or may not have been.
+#[derive(Clone, Copy, Debug, Fault)]
+pub enum FilesFault {
+    /// The log is another file's. Nothing was changed.
+    #[error("the log beside it, of the same name with -wal behind it, is another file's: remove it")]
+    OthersLog,
+    /// The header fails this test. Nothing was changed.
+    #[error("{0}")]
+    Header(FileFault),
+    /// The header couldn't be read. Nothing was changed.
+    #[error("{0}")]
+    Read(Error),
+    /// The two couldn't be opened, the changer refused, or the edits weren't saved, or may not have been, as the fault says.
+    #[error("{0}")]
+    Change(ChangeFault),
+}

@@ -1,0 +1,60 @@
+//! Files that a crash left, of which the page file alone is to have all.
+ghost use Rattle.std.specs.Prelude.{◌≡◌, ℕ, List, IsTrue, IfErr, OnOk};
+ghost use Rattle.sqlite_disk.specs.Disk.{Only};
+ghost use Rattle.sqlite_wal.specs.Files.{seen_image};
+ghost use Rattle.sqlite_wal.specs.Reads.{AreClean};
+ghost use Rattle.exh_commit.specs.FilePages.{Leaves, LeavesAlone, StandsFor};
+ghost use Rattle.exh_paged.specs.FilesFault.{IsCause};
+ghost use Rattle.exh_paged.specs.OwnLog.{IsOwn};
+
+use crate::FilesFault;
+use crate::own_log::see_own;
+use exh_commit::{ChangeFault, open};
+use sqlite_disk::{Disk, Files};
+use sqlite_pager::Options;
+use std::alloc::Global;
+
+/// Opens a page file with its log, whatever a crash left of them, sees that the log is the file's own, moves what is
+/// committed into the file, and gives both back. `own` is the stamp of the file without its log, `None` where its header is
+/// damaged. It takes memory for the blocks that are kept, as many as the options say.
+///
+/// `OthersLog`: the log is another file's. `Header`: the header fails this test. `Read`: it couldn't be read. `Change`: the
+/// two couldn't be opened, or what is committed stands in the log, as the fault says.
+pub fn recover_files<D: Disk + Drop>(
+    alloc: Global,
+    files: Files<D>,
+    options: Options,
+    own: Option<u64>,
+) -> (Result<(), FilesFault>, Files<D>)
+    requires log { IsTrue (D.Disk.is_usable files.log) }
+    requires db { IsTrue (D.Disk.is_usable files.db) }
+
+    // After a restart, what is read is what is on the disk.
+    requires log_synced { Only (D.Disk.seen files.log) (D.Disk.may_leave files.log) }
+    requires db_synced { Only (D.Disk.seen files.db) (D.Disk.may_leave files.db) }
+
+    // A crash leaves the bytes that the two stood for, and at the end the file alone has them.
+    ensures crash { (old : List ℕ) → StandsFor (seen_image D.Disk files.log files.db) old → Leaves D.Disk (result.1.log, result.1.db) (λ bytes. bytes ≡ old) }
+    ensures ok { OnOk result.0 ((old : List ℕ) → StandsFor (seen_image D.Disk files.log files.db) old → LeavesAlone D.Disk (result.1.log, result.1.db) (λ bytes. bytes ≡ old)) }
+
+    // They are a state of the file itself, and another file's log is told, unless a wrong answer of the disk was taken as true.
+    ensures own { OnOk result.0 (AreClean D.Disk result.1.log result.1.db → (old : List ℕ) → StandsFor (seen_image D.Disk files.log files.db) old → IsOwn own old) }
+    ensures refused { IfErr result.0 (λ fault. AreClean D.Disk result.1.log result.1.db → (old : List ℕ) → StandsFor (seen_image D.Disk files.log files.db) old → IsCause own old fault) }
+{
+    let mut file = match open(alloc, files, options) {
+        Ok(file) => file,
+        Err((error, files)) => {
+            return (Err(FilesFault::Change(ChangeFault::Open(error))), files);
+        }
+    };
+    if let Err(fault) = see_own(&mut file, own) {
+        return (Err(fault), file.close());
+    }
+    if let Err(error) = file.settle() {
+        return (
+            Err(FilesFault::Change(ChangeFault::LeftInLog(error))),
+            file.close(),
+        );
+    }
+    (Ok(()), file.close())
+}

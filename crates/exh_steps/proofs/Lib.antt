@@ -1,0 +1,16 @@
+mod Counts
+mod WardPlaces
+mod LegalWards
+mod ChangedCells
+mod ChangedWard
+mod Slots
+mod TwoPages
+mod InPlace
+mod WardSplits
+mod Revived
+mod Fresh
+mod Merges
+mod RecordCount
+mod HomeReplies
+mod WardParts
+mod HomeAnswers

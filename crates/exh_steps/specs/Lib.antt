@@ -1,0 +1,2 @@
+pub mod PlacedSteps
+pub mod StepLaws

@@ -1,0 +1,55 @@
+//! What is asked of a page file before its log is opened.
+
+use crate::{InPlaceFault, PageLog};
+use exh_codec::BLOCK_LEN;
+use std::fs::File;
+use std::io::ErrorKind;
+use std::os::unix::fs::MetadataExt;
+use std::{fs, io};
+
+// A name of a file has at most 255 bytes, that of a log four more than the page file's.
+const NAME_LIMIT: usize = 251;
+
+/// Whether an open file is at a path without links, as the system says it.
+///
+/// An error: the system doesn't say what is there.
+pub fn is_at(rt: &HostRuntime, file: &File, whole: &str) -> io::Result<bool> {
+    let opened = file.metadata()?;
+    match fs::symlink_metadata(rt, whole) {
+        Ok(there) => Ok(
+            there.is_file() && there.dev() == opened.dev() && there.ino() == opened.ino(),
+        ),
+        Err(error) if error.kind() == ErrorKind::NotFound => Ok(false),
+        Err(error) => Err(error),
+    }
+}
+
+/// Sees that a file, which is locked and at its path without links, can be changed in place. Where its log has a change it
+/// may end amid a block, as the power may fail while the log is copied.
+///
+/// `PartOfBlock`, `SecondName`, `LongName`, `Journal`: as they say. `System`: the system doesn't say what is there.
+pub fn see_fit(rt: &HostRuntime, file: &File, whole: &str) -> Result<(), InPlaceFault> {
+    let about = file.metadata()?;
+    if about.len() % BLOCK_LEN as u64 != 0 && !PageLog::of(rt, whole)?.has_change(rt)? {
+        return Err(InPlaceFault::PartOfBlock);
+    }
+    if about.nlink() != 1 {
+        return Err(InPlaceFault::SecondName);
+    }
+    if name_of(whole).len() > NAME_LIMIT {
+        return Err(InPlaceFault::LongName);
+    }
+    match fs::symlink_metadata(rt, format!(in rt.alloc(); "{whole}-journal")?.as_str()) {
+        Ok(_) => Err(InPlaceFault::Journal),
+        Err(error) if error.kind() == ErrorKind::NotFound => Ok(()),
+        Err(error) => Err(InPlaceFault::System(error)),
+    }
+}
+
+// What stands behind the last slash.
+fn name_of(whole: &str) -> &str {
+    match whole.rsplit_once('/') {
+        Some((_, name)) => name,
+        None => whole,
+    }
+}

@@ -1,0 +1,56 @@
+use std::alloc::AllocError;
+use std::io;
+use thiserror::Error;
+
+/// Why a page file isn't changed in place, or not read beside others that change it. Nothing of it was changed.
+#[derive(Clone, Copy, Debug, Error)]
+pub enum InPlaceFault {
+    /// Another run has the writers' lock.
+    #[error("another run is at work on it")]
+    Busy,
+    /// Another file came to the path each time before it was locked.
+    #[error("other files come to its path")]
+    Changed,
+    /// What is at the path isn't the file that was opened, or is another state of it.
+    #[error("what is there is no longer the file that was opened")]
+    NotAsOpened,
+    /// The file has a second name, whose log would be another one.
+    #[error("it has a second name (a hard link)")]
+    SecondName,
+    /// There is no room for the name of its log.
+    #[error("its name leaves no room for that of its log")]
+    LongName,
+    /// The file isn't a list of whole blocks.
+    #[error("it ends amid a block")]
+    PartOfBlock,
+    /// A journal stands beside the file, as SQLite makes one.
+    #[error("a journal stands beside it, of the same name with -journal behind it")]
+    Journal,
+    /// The log beside the file has changes of another file.
+    #[error("the log beside it, of the same name with -wal behind it, is another file's: remove it")]
+    OthersLog,
+    /// The file was changed again and again while it was read.
+    #[error("it was being changed all the while")]
+    Restless,
+    /// The system failed.
+    #[error("{0}")]
+    System(io::Error),
+    /// A growth was refused.
+    #[error("out of memory")]
+    Memory,
+}
+
+impl From<io::Error> for InPlaceFault {
+    fn from(error: io::Error) -> InPlaceFault {
+        match error.kind() {
+            io::ErrorKind::OutOfMemory => InPlaceFault::Memory,
+            _ => InPlaceFault::System(error),
+        }
+    }
+}
+
+impl From<AllocError> for InPlaceFault {
+    fn from(_error: AllocError) -> InPlaceFault {
+        InPlaceFault::Memory
+    }
+}

@@ -1,0 +1,48 @@
+//! The log of a page file, which stands beside it during a change and behind a crash.
+
+use std::io::ErrorKind;
+use std::{fs, io};
+
+// A log of fewer bytes has no change: its header, and what shuts it.
+const LEAST: u64 = 56;
+
+/// The log of the page file of a path without links.
+#[derive(Drop)]
+pub struct PageLog {
+    path: String,
+}
+
+impl PageLog {
+    /// That of the page file of a path without links, whether it is there or not.
+    ///
+    /// An error: memory ran out.
+    pub fn of(rt: &HostRuntime, whole: &str) -> io::Result<PageLog> {
+        let path = format!(in rt.alloc(); "{whole}-wal")?;
+        Ok(PageLog { path })
+    }
+
+    pub fn path(&self) -> &str {
+        &self.path
+    }
+
+    /// Whether a log is there that may have a change.
+    ///
+    /// An error: the system doesn't say what is there.
+    pub fn has_change(&self, rt: &HostRuntime) -> io::Result<bool> {
+        match fs::symlink_metadata(rt, self.path.as_str()) {
+            Ok(about) => Ok(!about.is_file() || about.len() >= LEAST),
+            Err(error) if error.kind() == ErrorKind::NotFound => Ok(false),
+            Err(error) => Err(error),
+        }
+    }
+
+    /// Removes the log, if one is there. Only who has the writers' lock may, once the file alone has what the log has.
+    ///
+    /// An error: the system doesn't remove it.
+    pub fn remove(&self, rt: &HostRuntime) -> io::Result<()> {
+        match fs::remove_file(rt, self.path.as_str()) {
+            Err(error) if error.kind() == ErrorKind::NotFound => Ok(()),
+            removed => removed,
+        }
+    }
+}
