@@ -41,6 +41,8 @@ OF_ONE_KEY = {
     "swap": ("swapped", "differs", "none"),
 }
 CALLS_OVER_FILES = tuple(f"{command} of a file: {it}" for command, ends in OF_ONE_KEY.items() for it in ends)
+# Of which damaged files a call of one key comes up.
+OF_WHICH = ("of which a get", "of version 3 of which a call")
 # What must have come up too where the program has files of version 3.
 OF_PLACED = (
     "opened file of version 3",
@@ -48,7 +50,7 @@ OF_PLACED = (
     "file converted there and back",
     *(name.replace("file", "file of version 3", 1) for name in SAVED_AGAIN),
 )
-GETS_OF_DAMAGED = tuple(f"damaged file of which a get is {it}" for it in ("refused", "answered"))
+OF_ONE_CALL = tuple(f"damaged file {of} is {it}" for of in OF_WHICH for it in ("refused", "answered"))
 FILES = ("saved file", *OPENED, *SAVED_AGAIN, "loaded file", "file told by check")
 LOADED_AGAIN = tuple(f"text of pairs loaded with {it}" for it in ("the same pairs", "a smaller cap or another keyer"))
 PAIRS = ("text of pairs told by pairs", *LOADED_AGAIN)
@@ -61,7 +63,7 @@ def wanted():
     words = ("file", "begin", *FORMS, "another word")
     refusals = [f"refused {number} of {word}" for word in words for number in (*REFUSALS.get(word, ()), 60)]
     of_scripts = [*lines, *refusals, *OUTCOMES, *PLACES, *COPIES, *SETTINGS, *REFUSED_SCRIPTS]
-    of_files = [*FILES, *TEXTS, *CALLS_OVER_FILES, *DAMAGED_FILES, *GETS_OF_DAMAGED]
+    of_files = [*FILES, *TEXTS, *CALLS_OVER_FILES, *DAMAGED_FILES, *OF_ONE_CALL]
     return [*of_scripts, *of_files, *OF_PLACED]
 
 

@@ -2,10 +2,12 @@
 
 import collections
 
+from .command_line import calling_of
 from .file_reader import file_of
 from .grammar import FORMS, MOVES, WrongLine, bytes_of, number_of, settings_of
-from .page_file import Load
+from .page_file import BLOCK, Load
 from .page_reader import Fault
+from .placed_change import is_in_place
 from .script import Script
 from .version import (
     CAP_LIMIT,
@@ -180,6 +182,13 @@ def options_of(words):
     return options
 
 
+def notes_of_call(name, files):
+    """Of a call that is to change the file of a name."""
+    content = files.get(name, b"")
+    is_cut = is_in_place(content) and len(content) % BLOCK
+    return f'exhash: not saved to "{name}": it ends amid a block\n'.encode() if is_cut else b""
+
+
 def notes_of(words, given, files):
     """What standard error has of a run that the documents allow, with its files before; of each that is opened the bytes."""
     name = None
@@ -190,6 +199,8 @@ def notes_of(words, given, files):
             notes_of_given = notes_of_pairs
         case ["serve", *options]:
             notes_of_given, name = notes_of_script, options_of(options).get("--open")
+        case [("put" | "del" | "swap") as command, *spelled]:
+            return notes_of_call(calling_of(command, spelled)[0], files)
         case _:
             return b""
     try:

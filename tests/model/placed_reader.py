@@ -103,11 +103,9 @@ class PlacedReader(BlockReader):
             raise Fault(ILLEGAL, reason=len(TESTS))
         return parts.file()
 
-    def value_of(self, key):
-        """The value of a key, by the header, the cells on its walk and one page alone; none where it has none."""
-        header, groups = self.header(), {}
-        keyer, count = keyer_of(header.keyer), header.pages()
-        pseudokey = pseudokey_of(keyer, key)
+    def home_of(self, header, pseudokey):
+        """The place of the page to which the cells lead a pseudokey, and the page, by the cells on its walk and it alone."""
+        groups, count, keyer = {}, header.pages(), keyer_of(header.keyer)
         place = int(pseudokey[: header.ward_bits] or "0", 2)
         for length in range(header.ward_bits, PLACED.limit):
             group, at = divmod(place, OF_GROUP)
@@ -123,6 +121,12 @@ class PlacedReader(BlockReader):
         page = self.page(keyer)
         if not isinstance(page, Live) or not pseudokey.startswith(page.prefix):
             raise Fault(ILLEGAL)
+        return place, page
+
+    def value_of(self, key):
+        """The value of a key, by the header, the cells on its walk and one page alone; none where it has none."""
+        header = self.header()
+        _, page = self.home_of(header, pseudokey_of(keyer_of(header.keyer), key))
         return dict(page.records).get(key)
 
 

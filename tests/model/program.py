@@ -6,8 +6,9 @@ from .bits import low_bound, parent_of
 from .command_line import WrongWords, calling_of, converting_of, pairing_of
 from .file_reader import file_of, value_in
 from .grammar import printed
-from .page_file import MAGIC, bytes_of_file, check_text, dump_text, load_of, pairs_text, put
+from .page_file import BLOCK, MAGIC, bytes_of_file, check_text, dump_text, load_of, pairs_text, put
 from .page_reader import READ, Fault
+from .placed_change import DONE, PlacedChange, is_in_place
 from .placed_file import DRAWN, is_placed, placed_file, stamp_after, stamps_of
 from .placed_reader import PlacedReader
 from .script import text_of
@@ -16,8 +17,6 @@ from .version import NUMBER_LIMIT, PLACED
 # What stands behind a place's name in that of the file beside it, and for where that is another's, in those of others.
 BESIDE = ".exhash-saving"
 BESIDES = (BESIDE, *(f"{BESIDE}-{number}" for number in (2, 3, 4)))
-# The replies of calls that are done.
-DONE = ("new", "was", "swapped")
 
 
 class Outcome(NamedTuple):
@@ -79,20 +78,49 @@ def got(name, key, files):
 
 
 def changed(name, call, files):
-    """A call over the file of a name, which is saved there where the call is done, and else left as it was. Of a file of
-    version 3 it refuses what a get of the key does."""
+    """A call over the file of a name, which is saved there where the call is done, and else left as it was."""
     content = content_at(name, files)
-    if is_placed(content):
-        value_in(content, call.key)
+    if is_in_place(content):
+        return changed_in_place(name, call, files)
     file = file_of(content)
     reply = put(file, call)
-    lines = [" ".join([reply.word] + ([] if reply.value is None else [printed(reply.value)]))]
     if reply.word not in DONE:
-        return Outcome(lines, 3, files)
-    if is_placed(files[name]) and call.word == "del":
-        merge_once(file, call.key)
-    outcome = saved(lines, bytes_again(file.opened(), files[name]), files, name)
+        return Outcome([line_of(reply)], 3, files)
+    outcome = saved([line_of(reply)], bytes_of_file(file.opened()), files, name)
     return outcome._replace(lines=[]) if outcome.status else outcome
+
+
+def line_of(reply):
+    """The line of a reply."""
+    return " ".join([reply.word] + ([] if reply.value is None else [printed(reply.value)]))
+
+
+def changed_in_place(name, call, files):
+    """The same of a file of version 3, of which only what the call needs is asked. One that ends amid a block is let be."""
+    content = files[name]
+    if len(content) % BLOCK:
+        return Outcome([], 1, files)
+    reply, left = PlacedChange(content).call(call)
+    if whole := whole_changed(content, call):
+        # What the documents say of a legal file, whatever the blocks come to.
+        if whole != (reply, left if reply.word in DONE else None):
+            raise ValueError(f"the blocks and the pairs of {name} come to different things after {call}")
+    return Outcome([line_of(reply)], 0 if reply.word in DONE else 3, files | {name: left})
+
+
+def whole_changed(content, call):
+    """What a call comes to over a legal file of version 3, read and written whole: the reply, and the bytes where it is
+    done. None where the file isn't legal."""
+    try:
+        file = file_of(content)
+    except Fault:
+        return None
+    reply = put(file, call)
+    if reply.word not in DONE:
+        return reply, None
+    if call.word == "del":
+        merge_once(file, call.key)
+    return reply, bytes_again(file.opened(), content)
 
 
 def merge_once(file, key):

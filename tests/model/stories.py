@@ -6,7 +6,6 @@ from dataclasses import dataclass, field
 from typing import NamedTuple
 
 from .broken_ways import broken
-from .command_line import calling_of
 from .dice import (
     COPIES,
     WRONG_BYTES,
@@ -20,10 +19,9 @@ from .dice import (
     value_by,
     wrong_file_line,
 )
-from .file_reader import file_of, value_in
+from .file_reader import file_of
 from .other_files import damaged, strange
-from .page_file import BLOCK, bytes_of_file, has_room
-from .page_reader import Fault
+from .page_file import bytes_of_file, has_room
 from .placed_file import is_placed, placed_file, shuffled
 from .program import bytes_again, outcome_of
 from .version import CURRENT, FIRST, KEY_LIMIT, LIMIT, SCRIPT_LIMIT, VALUE_LIMIT
@@ -235,14 +233,27 @@ class Teller:
             self.ask(self.call_words("get", name, file))
             what = "refused" if self.story.runs[-1].status == 1 else "answered"
             self.story.met[f"damaged file of which a get is {what}"] += 1
+        if is_placed(content):
+            for _ in range(self.dice.randrange(CALLS)):
+                self.call_over_damaged(name, file)
         opened = ["serve", "--open", name, "--save", name]
         call = self.call_words(self.dice.choice(("put", "del", "swap")), name, file)
-        calls = [call] if not is_placed(content) or is_call_known(self.files[name], call) else []
-        words = self.dice.choice([["check", name], ["dump", name], ["pairs", name], opened, *calls])
-        [first, *_] = self.ask(words, b"inflight")
-        fault = first.partition(" at ")[0]
-        is_refused = fault.startswith(("refused 3", "refused 40"))
-        self.story.met[f"damaged file {fault}" if is_refused else "damaged file that is legal"] += 1
+        words = self.dice.choice([["check", name], ["dump", name], ["pairs", name], opened, call])
+        lines = self.ask(words, b"inflight")
+        self.story.met[f"damaged file {self.what_came(words == call, lines)}"] += 1
+
+    def call_over_damaged(self, name, file):
+        """A call over a damaged file of version 3, of which only what the call needs is asked."""
+        self.ask(self.call_words(self.dice.choice(("put", "put", "del", "swap")), name, file))
+        what = "refused" if self.story.runs[-1].status == 1 else "answered"
+        self.story.met[f"damaged file of version 3 of which a call is {what}"] += 1
+
+    def what_came(self, is_call, lines):
+        """What came of a run over a damaged file: it is refused, or is answered."""
+        fault = lines[0].partition(" at ")[0] if lines else "that ends amid a block"
+        if not lines or fault.startswith(("refused 3", "refused 40")):
+            return fault
+        return "of which a call is answered" if is_call else "that is legal"
 
     def refuse(self, source=None):
         """A script that is refused as a whole, over a new file or an opened one: nothing is saved."""
@@ -274,21 +285,6 @@ class Teller:
         long_key, long_value = "#" + "61" * (KEY_LIMIT + 1), "#" + "62" * (VALUE_LIMIT + 1)
         wrong = (key, f"{key}  {value}", f"{key} {value} ", f"{self.dice.choice(WRONG_BYTES)} {value}", "# a")
         return self.dice.choice((*wrong, f"{long_key} a", f"a {long_value}", self.dice.choice(WRONG_LINES)))
-
-
-def is_call_known(content, words):
-    """Whether it is known what a call makes of the bytes of a file of version 3, of which it reads only what it needs: where
-    it is legal, or a get of the key is refused, and it ends with a block, of which else standard error tells."""
-    try:
-        file_of(content)
-        return True
-    except Fault:
-        pass
-    try:
-        value_in(content, calling_of(words[0], words[1:])[1].key)
-        return False
-    except Fault:
-        return len(content) % BLOCK == 0
 
 
 def story_of(seed):
