@@ -1,0 +1,314 @@
+"""Traps for changes in place: logs that aren't the file's, and names, paths and folders that a log doesn't fit."""
+
+import os
+import shutil
+
+from .cut_off import LATER, LOG, laid
+from .in_place import FIRST_LINE, MORE, PAIRS, PLACE, key_of
+from .page_file import BLOCK, sealed
+from .page_reader import Live
+from .placed_change import block_of
+from .placed_file import EMPTY, OF_GROUP, SLOTS, Cell, header_of, page_block_at, walk_block_at
+from .rooms import SHARED_FOLDER, USERS
+from .trap_rooms import Wrong, fill, room_with, shared_room, small_room
+
+LINK = "link.exh"
+OTHERS = "is another file's: remove it"
+# The bytes of a log from which all was copied.
+EMPTY_LOG = 41
+# A byte at which nothing special lies, though the locks of other programs do.
+GIB = 1 << 30
+# The blocks that are left of a small file system.
+LEFT = range(9)
+
+
+def another_file(program):
+    """A file of version 3 with another pair."""
+    with room_with(program, {}) as room:
+        room.wants(["load", "plain.exh"], 0, given=FIRST_LINE + b"a b\n")
+        room.wants(["convert", "plain.exh", PLACE], 0)
+        return room.at(PLACE).read_bytes()
+
+
+# ---- logs
+
+
+def log_of_another_file(program, left, _):
+    """The log of a run that was cut off beside another file: it is refused, and named, until it is removed."""
+    with room_with(program, {**left, PLACE: another_file(program)}) as room:
+        for words in (["put", PLACE, "k", "v"], ["del", PLACE, "a"], ["swap", PLACE, "a", "b", "c"]):
+            room.is_let_be(words, OTHERS)
+        room.is_let_be(["get", PLACE, "a"], OTHERS, text=b"refused 41\n")
+        room.is_let_be(["check", PLACE], OTHERS, text=b"refused 41\n")
+        room.at(LOG).unlink()
+        room.wants(["put", PLACE, "k", "v"], 0, b"new\n")
+        room.has({"a": "b", "k": "v"})
+
+
+def log_of_a_file_that_is_gone(program, left, _):
+    """The same where the file was removed, and another one converted to its place."""
+    with room_with(program, left) as room:
+        room.at(PLACE).unlink()
+        room.wants(["load", "plain.exh"], 0, given=FIRST_LINE + b"a b\n")
+        room.wants(["convert", "plain.exh", PLACE], 0)
+        room.is_let_be(["put", PLACE, "k", "v"], OTHERS)
+        room.at(LOG).unlink()
+        room.has({"a": "b"})
+
+
+def log_of_a_copy(program, left, alone):
+    """The log beside a copy that was made before and changed since: equal settings and pages don't make it the copy's."""
+    with room_with(program, alone) as room:
+        room.wants(["put", PLACE, MORE, "1"], 0, b"new\n")
+        shutil.copy(room.at(PLACE), room.at("kept"))
+        room.at(LOG).write_bytes(left[LOG])
+        room.is_let_be(["put", PLACE, "k", "v"], OTHERS)
+        room.at(LOG).unlink()
+        room.has({**PAIRS, MORE: "1"})
+
+
+def log_behind_a_renamed_file(program, left, alone):
+    """A file that was renamed without its log, changed, and renamed back: the log is no longer its own."""
+    with room_with(program, {**left, **alone}) as room:
+        room.at(PLACE).rename(room.at("moved.exh"))
+        room.wants(["put", "moved.exh", MORE, "1"], 0, b"new\n")
+        room.at("moved.exh").rename(room.at(PLACE))
+        room.is_let_be(["put", PLACE, "k", "v"], OTHERS)
+        room.at(LOG).unlink()
+        room.has({**PAIRS, MORE: "1"})
+
+
+def file_and_log_copied(program, left, _):
+    """Both copied to another name: the copy recovers, and so does the file."""
+    with room_with(program, left) as room:
+        shutil.copy(room.at(PLACE), room.at("copy.exh"))
+        shutil.copy(room.at(LOG), room.at("copy.exh-wal"))
+        for name in ("copy.exh", PLACE):
+            room.wants(["get", name, key_of(1)], 0, b"cut\n")
+            room.has(LATER, name)
+        room.has_no_log()
+
+
+def file_alone_copied(program, left, alone):
+    """The file copied without its log, before any of this was moved into it: it has the pairs from before."""
+    with room_with(program, {**left, **alone}) as room:
+        shutil.copy(room.at(PLACE), room.at("copy.exh"))
+        room.has(PAIRS, "copy.exh")
+        room.has(LATER)
+
+
+def log_settled_before_a_load(program, left, _):
+    """A load that replaces a file beside which a log was left: the log is gone, and never copied into the new one."""
+    with room_with(program, left) as room:
+        room.wants(["load", PLACE], 0, given=FIRST_LINE + b"a b\n")
+        room.has_no_log()
+        room.has({"a": "b"})
+
+
+def folder_for_a_log(program, _, alone):
+    """A folder under the log's name: nothing is changed, and the file is read when it is gone."""
+    with room_with(program, alone) as room:
+        room.at(LOG).mkdir()
+        content = room.at(PLACE).read_bytes()
+        room.wants(["put", PLACE, "k", "v"], 1, b"", "not saved to")
+        if room.at(PLACE).read_bytes() != content:
+            raise Wrong("put: it changed the file")
+        room.at(LOG).rmdir()
+        room.has(PAIRS)
+
+
+def pipe_for_a_log(program, _, alone):
+    """A pipe under the log's name, which nobody reads: nothing waits for it, and nothing is changed."""
+    with room_with(program, alone) as room:
+        os.mkfifo(room.at(LOG))
+        content = room.at(PLACE).read_bytes()
+        room.wants(["put", PLACE, "k", "v"], 1, b"", "not saved to")
+        room.at(LOG).unlink()
+        if room.at(PLACE).read_bytes() != content:
+            raise Wrong("put: it changed the file")
+        room.has(PAIRS)
+
+
+# ---- names and paths
+
+
+def second_name(program, _, alone):
+    """A hard link: the file is read, and not changed."""
+    with room_with(program, alone) as room:
+        os.link(room.at(PLACE), room.at(LINK))
+        for words in (["put", LINK, "k", "v"], ["del", PLACE, key_of(1)]):
+            room.is_let_be(words, f'not saved to "{words[1]}": it has a second name (a hard link)')
+        room.has(PAIRS)
+        room.at(LINK).unlink()
+        room.wants(["put", PLACE, MORE, "1"], 0, b"new\n")
+
+
+def link_to_the_file(program, left, alone):
+    """A link in another folder: what is changed, locked and logged is the file to which it leads."""
+    with room_with(program, {**left, **alone}) as room:
+        room.at("links").mkdir()
+        link = room.at("links") / LINK
+        link.symlink_to(f"../{PLACE}")
+        # The log beside the file is found by the link too.
+        room.wants(["get", f"links/{LINK}", key_of(1)], 0, b"cut\n")
+        room.wants(["put", f"links/{LINK}", MORE, "1"], 0, b"new\n")
+        room.has({**LATER, MORE: "1"})
+        room.has_no_log()
+        if not link.is_symlink() or os.listdir(room.at("links")) != [LINK]:
+            raise Wrong("the link or its folder is another one")
+
+
+def long_name(program, _, alone):
+    """A name of 251 bytes has a log, and one of 252 has none."""
+    with room_with(program, alone) as room:
+        name = "n" * 251
+        room.at(PLACE).rename(room.at(name))
+        room.wants(["put", name, MORE, "1"], 0, b"new\n")
+        room.at(name).rename(room.at(f"{name}n"))
+        room.is_let_be(["put", f"{name}n", "k", "v"], "its name leaves no room for that of its log")
+        room.has({**PAIRS, MORE: "1"}, f"{name}n")
+
+
+def odd_name(program, left, _):
+    """A name with blanks, quotes, a newline and a letter of two bytes: it is changed, and told as a string of Rust's."""
+    with room_with(program, {}) as room:
+        name = 'a "b"\n\\é.exh'
+        laid({name: left[PLACE], f"{name}-wal": left[LOG]}, room.folder)
+        room.wants(["put", name, MORE, "1"], 0, b"new\n")
+        room.has({**LATER, MORE: "1"}, name)
+        room.has_no_log()
+        os.link(room.at(name), room.at(LINK))
+        room.is_let_be(["put", name, "k", "v"], 'not saved to "a \\"b\\"\\n\\\\é.exh": it has a second name')
+
+
+def journal(program, _, alone):
+    """A file as SQLite's journal is named: the file isn't changed while it is there."""
+    with room_with(program, alone) as room:
+        room.at(f"{PLACE}-journal").write_bytes(b"")
+        room.is_let_be(["put", PLACE, "k", "v"], "a journal stands beside it")
+        room.at(f"{PLACE}-journal").unlink()
+        room.wants(["put", PLACE, MORE, "1"], 0, b"new\n")
+
+
+# ---- lengths
+
+
+def part_of_a_block(program, _, alone):
+    """Bytes behind the last block that are no block: they are neither cut nor filled up."""
+    with room_with(program, {PLACE: alone[PLACE] + b"behind"}) as room:
+        for words in (["put", PLACE, "k", "v"], ["del", PLACE, key_of(1)]):
+            room.is_let_be(words, f'not saved to "{PLACE}": it ends amid a block')
+        room.is_let_be(["check", PLACE], None, text=b"refused 39\n")
+
+
+def above_a_gib(program, _, __):
+    """A file of over a GiB, whose key's page stands at that byte: it is changed there. Of the other pages none is read."""
+    place = next(it for it in range(GIB // BLOCK) if page_block_at(it) * BLOCK == GIB)
+    count = place + OF_GROUP
+    key, low = b"\x80", "1".ljust(64, "0")
+    slots = [(1, place), *[EMPTY] * (SLOTS - 1)]
+    group = min(OF_GROUP, count - place // OF_GROUP * OF_GROUP)
+    blocks = {
+        0: header_of((2, 0, 2), [count], (b"its own ", b"before\0\0")),
+        walk_block_at(0): sealed(b"".join([Cell(0, slots).content(), *[Cell(0, [EMPTY] * SLOTS).content()] * (OF_GROUP - 1)])),
+        walk_block_at(place // OF_GROUP): sealed(Cell(0, [EMPTY] * SLOTS).content() * group),
+        page_block_at(place): block_of(Live(low, "1", None, [])),
+    }
+    with room_with(program, {}) as room:
+        with room.at(PLACE).open("wb") as file:
+            for at, block in blocks.items():
+                file.seek(at * BLOCK)
+                file.write(block)
+            file.truncate((page_block_at(count - 1) + 1) * BLOCK)
+        room.wants(["put", PLACE, "#80", "v"], 0, b"new\n")
+        room.wants(["get", PLACE, "#80"], 0, b"v\n")
+        room.has_no_log()
+        with room.at(PLACE).open("rb") as file:
+            file.seek(GIB)
+            if file.read(BLOCK) != block_of(Live(low, "1", None, [(key, b"v")])):
+                raise Wrong("the block at a GiB is another one")
+
+
+# ---- what a user may do
+
+
+def file_to_read(program, _, alone):
+    """A file that may only be read: it is, and isn't changed."""
+    with shared_room(program, alone, USERS[0]) as room:
+        os.chmod(room.at(PLACE), 0o444)
+        room.is_let_be(["put", PLACE, "k", "v"], "not saved to", user=USERS[0])
+        room.has(PAIRS, user=USERS[0])
+
+
+def folder_to_read(program, left, alone):
+    """A folder in which nothing can be made: its file is read, and isn't changed; one with a log isn't read."""
+    with shared_room(program, alone, USERS[0]) as room:
+        os.chmod(room.folder, 0o555)
+        room.is_let_be(["put", PLACE, "k", "v"], "not saved to", user=USERS[0])
+        room.has(PAIRS, user=USERS[0])
+        os.chmod(room.folder, SHARED_FOLDER)
+        room.at(LOG).write_bytes(left[LOG])
+        os.chown(room.at(LOG), *USERS[1])
+        os.chmod(room.at(LOG), 0o444)
+        os.chmod(room.folder, 0o555)
+        room.is_let_be(["get", PLACE, key_of(1)], "exhash: ", text=b"refused 41\n", user=USERS[0])
+        os.chmod(room.folder, SHARED_FOLDER)
+        room.has(LATER)
+
+
+def sticky_folder(program, left, _):
+    """A folder in which each may remove only what is theirs: the other's log is copied and emptied, and may stay so."""
+    with shared_room(program, left, USERS[0]) as room:
+        os.chmod(room.folder, 0o3775)
+        room.wants(["put", PLACE, MORE, "1"], 0, b"new\n", user=USERS[1])
+        if room.at(LOG).exists() and room.at(LOG).stat().st_size != EMPTY_LOG:
+            raise Wrong(f"the log has {room.at(LOG).stat().st_size} bytes")
+        room.has({**LATER, MORE: "1"}, user=USERS[1])
+        room.wants(["put", PLACE, "k", "v"], 0, b"new\n", user=USERS[0])
+        room.has({**LATER, MORE: "1", "k": "v"}, user=USERS[1])
+        room.has_no_log()
+
+
+def full_disk(program, _, alone):
+    """A disk with room for so many blocks, from none on: a put that needs more says so and changes nothing, and is done
+    once there is room."""
+    key = "#c1c1c1"
+    for left in LEFT:
+        with small_room(program, alone) as room:
+            filler = room.at("filler")
+            fill(filler, left)
+            done = room.run(["put", PLACE, key, "v"])
+            if done.returncode not in (0, 1) or (done.returncode == 1) != bool(done.stderr):
+                raise Wrong(f"{left} blocks: status {done.returncode}: {done.stdout} {done.stderr[:200]}")
+            filler.unlink()
+            room.has({**PAIRS, key: "v"} if done.returncode == 0 else PAIRS)
+            room.wants(["put", PLACE, key, "w"], 0)
+            room.has({**PAIRS, key: "w"})
+            room.has_no_log()
+
+
+TRAPS = {
+    it.__name__.replace("_", " "): it
+    for it in (
+        log_of_another_file,
+        log_of_a_file_that_is_gone,
+        log_of_a_copy,
+        log_behind_a_renamed_file,
+        file_and_log_copied,
+        file_alone_copied,
+        log_settled_before_a_load,
+        folder_for_a_log,
+        pipe_for_a_log,
+        second_name,
+        link_to_the_file,
+        long_name,
+        odd_name,
+        journal,
+        part_of_a_block,
+        above_a_gib,
+        file_to_read,
+        folder_to_read,
+        sticky_folder,
+        full_disk,
+    )
+}
