@@ -7,12 +7,12 @@ use Rattle.exh_script.specs.Text.{Beginning}
 use Rattle.exh_script.specs.Served.{PrintsLines, PrintsText, PrintsUnread, PrintsWhole, unread_text}
 use Rattle.exh_script.specs.declared.serve_fault.ServeFault.{ServeFault}
 use Rattle.exh_script.specs.declared.serve_fault.ServeFault.TheVariants.{Write, Memory, Page}
-use Rattle.exh_job.specs.LastLine.{memory_line}
+use Rattle.exh_answer.specs.LastLine.{memory_line}
 use Rattle.exh_job.specs.declared.job_path.JobPath.{JobPath}
 use Rattle.exh_job.specs.declared.ending.Ending.{Ending}
 use Rattle.exh_job.specs.declared.ending.Ending.TheVariants.{Over, Save, SaveAndTell, SaveNew}
-use Rattle.exh_job.specs.declared.status.Status.{Status}
-use Rattle.exh_job.specs.declared.status.Status.TheVariants.{Done, Refused}
+use Rattle.exh_answer.specs.declared.status.Status.{Status}
+use Rattle.exh_answer.specs.declared.status.Status.TheVariants.{Done, Refused}
 
 -- Of what a first line begins, of a writer that held `old` bytes before a run and `new` ones after it, where these are
 -- known, and of a reader that had `unread` bytes left.

@@ -10,7 +10,7 @@ use Rattle.exh_load.specs.Load.{Load, Loads, Prints, PrintsFront}
 use Rattle.exh_load.specs.declared.load_fault.LoadFault.{LoadFault}
 use Rattle.exh_load.specs.declared.load_fault.LoadFault.TheVariants.{Write, Memory, Page}
 use Rattle.exh_job.specs.LoadRun.{LoadPrints}
-use Rattle.exh_job.specs.LastLine.{memory_line}
+use Rattle.exh_answer.specs.LastLine.{memory_line}
 
 pub memory_writes : (fault : LoadFault) → fault ≡ Memory → fault ≢ Write
 memory_writes fault is = λ same. let never : Memory ≡ Write = sym is ∙ same in cc

@@ -5,12 +5,12 @@ use Rattle.exh_calls.specs.declared.reply.Reply.{Reply}
 use Rattle.exh_file.specs.Opened.{OpenedState}
 use Rattle.exh_file.specs.FileChange.{ChangesOneMap, IsChangedIn}
 use Rattle.exh_file.specs.ReplyLine.{is_done, reply_line}
-use Rattle.exh_job.specs.LastLine.{PrintsLine, TellsLine, memory_line}
+use Rattle.exh_answer.specs.LastLine.{PrintsLine, TellsLine, memory_line}
 use Rattle.exh_job.specs.declared.job_path.JobPath.{JobPath}
 use Rattle.exh_job.specs.declared.ending.Ending.{Ending}
 use Rattle.exh_job.specs.declared.ending.Ending.TheVariants.{Over, Save, SaveAndTell, SaveNew}
-use Rattle.exh_job.specs.declared.status.Status.{Status}
-use Rattle.exh_job.specs.declared.status.Status.TheVariants.{Done, Missing, Refused}
+use Rattle.exh_answer.specs.declared.status.Status.{Status}
+use Rattle.exh_answer.specs.declared.status.Status.TheVariants.{Done, Missing, Refused}
 
 -- a page out of reach
 abbrev pub out_of_reach_line : List ℕ

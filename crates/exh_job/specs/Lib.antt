@@ -1,11 +1,5 @@
-pub mod ExitStatus
-pub mod LastLine
-pub mod OpenRun
 pub mod Opening
 pub mod HeldForm
 pub mod JobPath
-pub mod FileRun
-pub mod PairsAgain
-pub mod GetRun
 pub mod ChangeRun
 pub mod LoadRun

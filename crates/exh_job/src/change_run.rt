@@ -4,8 +4,8 @@ ghost use Rattle.exh_stream.specs.Output.{SameWriter, held, pending, writer_fail
 ghost use Rattle.exh_job.specs.JobPath.{SavesAt};
 ghost use Rattle.exh_job.specs.ChangeRun.{EndsAnswer, EndsChange, EndsSaved, Refuses, SavesFile, TellsReply, status_of};
 
-use crate::last_line::{OUT_OF_MEMORY, print_last, tell_line};
-use crate::{Ending, FileWards, JobPath, Status};
+use crate::{Ending, JobPath};
+use exh_answer::{FileWards, OUT_OF_MEMORY, Status, print_last, tell_line};
 use exh_calls::{Call, Reply};
 use exh_file::{change_file, is_done, reply_line};
 use exh_stream::Output;

@@ -1,8 +1,7 @@
 //! How the program ends after the run of a job.
 
 use crate::job_path::JobPath;
-use crate::status::Status;
-use crate::stores::FileWards;
+use exh_answer::{FileWards, Status};
 use exh_command::PageFileVersion;
 
 /// How the program ends after the run of a job.

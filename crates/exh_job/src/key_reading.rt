@@ -1,8 +1,6 @@
 //! A get as a reading of an open file, which may be made again.
 
-use crate::get_run::tell_key;
-use crate::last_line::OUT_OF_MEMORY;
-use crate::status::Status;
+use exh_answer::{OUT_OF_MEMORY, Status, tell_key};
 use exh_in_place::Reading;
 use exh_page::Key;
 use exh_stream::Output;

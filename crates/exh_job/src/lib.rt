@@ -1,42 +1,34 @@
-//! The jobs of the program that work on page files: what each opens, prints and saves, what is said of it, and the status
-//! with which the program ends.
+//! The jobs of the program that work on page files: what each opens and saves, what is said of it, and the status with
+//! which the program ends.
 #![tactic(auto)]
 
 pub use ending::Ending;
+pub use exh_answer::{
+    FileWards, OUT_OF_MEMORY, Status, Topic, UNOPENED, pairs_load_again, print_line,
+    print_out_of_memory,
+};
 pub use exh_frames::MAKER;
 pub use exh_system::{INPUT, Reason, tell_reason, with_reason};
-pub use file_run::Topic;
 pub use held_file::HeldFile;
 pub use job_path::{JobPath, path_of};
-pub use last_line::{OUT_OF_MEMORY, UNOPENED, print_line, print_out_of_memory};
-pub use laws::pairs_load_again;
 pub use opened::{open_alone, open_at, opened_at};
 pub use saving::{save_at_path, save_new, warn};
 pub use standard::{change, convert, get, tell_change, tell_path};
 pub use standard_load::load;
-pub use status::Status;
-pub use stores::FileWards;
 pub use watch::{console, reading_meter};
 
 mod change_run;
 mod drafting;
 mod ending;
-mod file_run;
 mod file_watch;
 mod form_saved;
-mod get_run;
 mod held_file;
 mod job_path;
 mod key_reading;
-mod last_line;
-mod laws;
 mod load_run;
 mod numbered_writer;
-mod open_run;
 mod opened;
 mod saving;
 mod standard;
 mod standard_load;
-mod status;
-mod stores;
 mod watch;

@@ -2,15 +2,13 @@
 ghost use Rattle.std.specs.Prelude.{◌≡◌, IfErr, IfOk, IsOkAnd};
 ghost use Rattle.std.specs.Option.{option_copied};
 ghost use Rattle.exh_job.specs.Opening.{IsNamed, IsOpenedAt};
-ghost use Rattle.exh_job.specs.declared.status.Status.TheVariants.{Refused};
+ghost use Rattle.exh_answer.specs.declared.status.Status.TheVariants.{Refused};
 
 use crate::held_file::HeldFile;
-use crate::open_run::open_file;
 use crate::saving::{refuse_for_memory, refuse_save};
 use crate::standard::refuse_unread;
-use crate::status::Status;
-use crate::stores::FileWards;
 use crate::watch::reading_meter;
+use exh_answer::{FileWards, Status, open_file};
 use exh_in_place::hold_still;
 use exh_notes::ReasonReader;
 use exh_path::{DiskFault, Lock, OpenedFile, SystemDisk, open_above};

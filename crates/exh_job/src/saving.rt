@@ -1,15 +1,13 @@
 //! Where the wards that a run leaves are saved, and what standard error says of that.
 ghost use Rattle.std.specs.Prelude.{◌≡◌, ◌⊎◌};
-ghost use Rattle.exh_job.specs.declared.status.Status.TheVariants.{Done, Refused as Ended};
+ghost use Rattle.exh_answer.specs.declared.status.Status.TheVariants.{Done, Refused as Ended};
 
 use crate::drafting::{drafted, drafted_anew};
 use crate::form_saved::form_saved;
 use crate::held_file::HeldFile;
 use crate::job_path::JobPath;
-use crate::last_line::print_out_of_memory;
-use crate::status::Status;
-use crate::stores::FileWards;
 use crate::watch::saving_meter;
+use exh_answer::{FileWards, Status, print_out_of_memory};
 use exh_command::PageFileVersion;
 use exh_file::{Draft, PlacedForm};
 use exh_frames::FileStore;

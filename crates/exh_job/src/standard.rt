@@ -2,17 +2,16 @@
 ghost use Rattle.std.specs.Prelude.{◌≡◌, IfSome};
 ghost use Rattle.exh_job.specs.JobPath.{SavesAt};
 ghost use Rattle.exh_job.specs.Opening.{IsNamed};
-ghost use Rattle.exh_job.specs.declared.status.Status.TheVariants.{Refused as Ended};
+ghost use Rattle.exh_answer.specs.declared.status.Status.TheVariants.{Refused as Ended};
 
 use crate::change_run::{change_over, tell_answer, tell_saved};
-use crate::file_run::{Topic, tell_file};
-use crate::get_run::tell_refusal;
 use crate::key_reading::KeyReading;
-use crate::last_line::{OUT_OF_MEMORY, UNOPENED, print_last};
 use crate::saving::refuse_in_place;
 use crate::{
-    Ending, FileWards, HeldFile, JobPath, Status, open_alone, open_at, reading_meter, tell_reason,
-    with_reason,
+    Ending, HeldFile, JobPath, open_alone, open_at, reading_meter, tell_reason, with_reason,
+};
+use exh_answer::{
+    FileWards, OUT_OF_MEMORY, Status, Topic, UNOPENED, print_last, tell_file, tell_refusal,
 };
 use exh_calls::{Call, Reply};
 use exh_command::PageFileVersion;

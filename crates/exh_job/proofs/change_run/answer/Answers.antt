@@ -1,8 +1,8 @@
 use Rattle.std.proofs.Common.{◌∙◌, inl, inr, refl, subst, sym}
 use Rattle.exh_stream.specs.Output.{held, writer_failed}
-use Rattle.exh_job.specs.declared.status.Status.TheVariants.{Missing}
+use Rattle.exh_answer.specs.declared.status.Status.TheVariants.{Missing}
 use Rattle.exh_job.specs.ChangeRun.{SavesFile}
-use Rattle.exh_job.specs.LastLine.{TellsLine}
+use Rattle.exh_answer.specs.LastLine.{TellsLine}
 use Rattle.exh_job.proofs.change_run.answer.Goals as goal
 
 pub returns-in-Err-clause-ends : goal.returns-in-Err-clause-ends

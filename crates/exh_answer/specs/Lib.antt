@@ -1,0 +1,6 @@
+pub mod ExitStatus
+pub mod LastLine
+pub mod OpenRun
+pub mod FileRun
+pub mod PairsAgain
+pub mod GetRun
