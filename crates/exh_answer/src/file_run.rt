@@ -1,4 +1,4 @@
-//! The run of a command about a file to the program's end: what it prints, and the status.
+//! Prints what is in a page file, to the program's end, and answers its status.
 ghost use Rattle.std.specs.Prelude.{◌≡◌, ◌↔◌, [], IfErr, IfOk, IsErrOf, IsFalse, IsTrue};
 ghost use Rattle.exh_stream.specs.Output.{SameWriter, held, pending, writer_failed};
 ghost use Rattle.exh_report.specs.Report.{Reports};
@@ -14,7 +14,7 @@ use std::alloc::Global;
 use std::io;
 use std::io::{Read, Write};
 
-/// What a command tells of a legal page file.
+/// What a command prints of a legal page file.
 #[derive(Clone, Copy)]
 pub enum Topic {
     /// How much it has.
@@ -25,9 +25,9 @@ pub enum Topic {
     Pairs(OtherSettings),
 }
 
-/// Tells of a file, of which `opened` says what came of opening it, on an output that holds nothing back and whose writer
-/// hasn't failed, and says with which status the program ends. Where memory ran out the last line is `refused 10`, on
-/// the same writer. After a fault of the writer nothing more is printed.
+/// Prints what is in a page file on an output that holds nothing back and whose writer hasn't failed, and answers the
+/// status with which the program ends; `opened` is the result of opening the file. Where memory ran out the last line is
+/// `refused 10`, on the same writer. After a fault of the writer nothing more is printed.
 pub fn tell_file<F: Read + Drop, W: Write>(
     alloc: Global,
     topic: Topic,

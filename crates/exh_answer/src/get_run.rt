@@ -1,4 +1,4 @@
-//! The run of a get to the program's end: the value of a key, and the status.
+//! Prints the value of a key, to the program's end, and answers its status.
 ghost use Rattle.std.specs.Prelude.{◌≡◌, ◌⊎◌, [], IfErr, IfOk, IsFalse};
 ghost use Rattle.exh_stream.specs.Output.{SameWriter, held, pending, writer_failed};
 ghost use Rattle.exh_answer.specs.LastLine.{PrintsLine, memory_line};
@@ -17,9 +17,9 @@ use std::alloc::{AllocError, Global};
 use std::io;
 use std::io::Write;
 
-/// Prints the value that a page file of any version has at a key, by the file's own blocks, of which `opened` says what came
-/// of opening it, on an output that holds nothing back and whose writer hasn't failed; and says with which status the program
-/// ends. Where memory ran out the last line is `refused 10`.
+/// Prints the value that a page file of any version has at a key, by the file's own blocks, on an output that holds nothing
+/// back and whose writer hasn't failed, and answers the status with which the program ends; `opened` is the result of
+/// opening the file. Where memory ran out the last line is `refused 10`.
 pub fn tell_key<B: Blocks + Drop, W: Write>(
     alloc: Global,
     opened: io::Result<B>,
@@ -43,7 +43,7 @@ pub fn tell_key<B: Blocks + Drop, W: Write>(
     }
 }
 
-// Tells what was found.
+// Prints what was found.
 fn tell_found<W: Write>(
     alloc: Global,
     found: Result<Option<Value>, DirectFault>,

@@ -1,4 +1,4 @@
-//! A line that the program itself prints, as its last.
+//! The last line that the program prints.
 ghost use Rattle.std.specs.Prelude.{◌≡◌, ◌↔◌, [], IsErr, IsFalse, IsTrue, OnErr, OnOk};
 ghost use Rattle.std.specs.Io.KnownBytes.{Appends};
 ghost use Rattle.exh_stream.specs.Output.{AppendsBeginning, SameWriter, held, pending, writer_failed};
@@ -41,7 +41,7 @@ pub fn print_line<W: Write>(output: &mut Output<'_, W>, line: &[u8]) -> Result<(
     output.finish()
 }
 
-/// Prints a line as `print_line` does, where the status is the same whatever comes of it.
+/// Prints a line as `print_line` does, where a fault of the writer changes no status.
 pub fn print_last<W: Write>(output: &mut Output<'_, W>, line: &[u8])
     requires open { IsFalse (writer_failed output.old) }
     requires empty { pending output.old ≡ [] }
@@ -51,7 +51,7 @@ pub fn print_last<W: Write>(output: &mut Output<'_, W>, line: &[u8])
     let _ = print_line(output, line);
 }
 
-/// Prints a line, and says with which status the program ends: with this one where it went out.
+/// Prints a line, and answers the status with which the program ends: this one where the line went out, else `Refused`.
 pub fn tell_line<W: Write>(line: &[u8], status: Status, output: &mut Output<'_, W>) -> Status
     requires open { IsFalse (writer_failed output.old) }
     requires empty { pending output.old ≡ [] }

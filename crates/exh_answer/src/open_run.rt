@@ -1,4 +1,4 @@
-//! The opening of the page file that a run is over: its wards, or its refusal as `check` tells it.
+//! Opens the page file of a run as wards, or prints its refusal as `check` does.
 ghost use Rattle.std.specs.Prelude.{◌≡◌, ◌⊎◌, [], IfErr, IfOk, IsErrAnd, IsFalse};
 ghost use Rattle.exh_stream.specs.Output.{SameWriter, held, pending, writer_failed};
 ghost use Rattle.exh_answer.specs.LastLine.{PrintsLine, memory_line};
@@ -15,9 +15,11 @@ use std::alloc::{AllocError, Global};
 use std::io;
 use std::io::{Read, Write};
 
-/// The wards of a page file, of which `opened` says what came of opening it, and how it has its pages in places. Where there are none it says why on an
-/// output that holds nothing back and whose writer hasn't failed, and gives the status with which the program ends: the
-/// line is that of `check`, and after want of memory `refused 10`.
+/// Opens a page file as wards, with how it has its pages in places; `opened` is the result of opening it. A file that is
+/// refused is refused on `output`, which holds nothing back and whose writer hasn't failed: by the line of `check`, or
+/// after want of memory by `refused 10`.
+///
+/// An `Err`: the status with which the program ends, always `Refused`.
 pub fn open_file<F: Read + Drop, W: Write>(
     alloc: Global,
     opened: io::Result<F>,

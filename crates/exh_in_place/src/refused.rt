@@ -4,11 +4,12 @@ use exh_edits::DifferingFault;
 use exh_file::SaveFault;
 use exh_paged::{FilesFault, SaveFilesFault};
 use exh_system::InPlaceFault;
+use sqlite_pager::Error;
 use std::io;
-use thiserror::Error;
+use thiserror::Error as Fault;
 
 /// Why a page file isn't changed in place, or not read beside others that change it.
-#[derive(Debug, Drop, Error)]
+#[derive(Debug, Drop, Fault)]
 pub enum Refused {
     /// It can't be, and nothing was changed.
     #[error("{0}")]
@@ -56,6 +57,10 @@ impl From<FilesFault> for Refused {
             FilesFault::OthersLog => Refused::Unfit(InPlaceFault::OthersLog),
             FilesFault::Header(fault) => Refused::Damaged(DirectFault::File(fault)),
             FilesFault::Read(error) => Refused::Change(ChangeFault::Open(error)),
+            // The file is a list of blocks, so what doesn't fit it is the log.
+            FilesFault::Change(ChangeFault::Open(Error::Corrupt)) => {
+                Refused::Unfit(InPlaceFault::OthersLog)
+            }
             FilesFault::Change(ChangeFault::Refused(DirectFault::Memory)) => {
                 Refused::Unfit(InPlaceFault::Memory)
             }

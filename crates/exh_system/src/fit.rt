@@ -1,5 +1,6 @@
 //! What is asked of a page file before its log is opened.
 
+use crate::page_log::tells_of_none;
 use crate::{InPlaceFault, PageLog};
 use exh_codec::BLOCK_LEN;
 use std::fs::File;
@@ -41,7 +42,7 @@ pub fn see_fit(rt: &HostRuntime, file: &File, whole: &str) -> Result<(), InPlace
     }
     match fs::symlink_metadata(rt, format!(in rt.alloc(); "{whole}-journal")?.as_str()) {
         Ok(_) => Err(InPlaceFault::Journal),
-        Err(error) if error.kind() == ErrorKind::NotFound => Ok(()),
+        Err(error) if tells_of_none(&error) => Ok(()),
         Err(error) => Err(InPlaceFault::System(error)),
     }
 }

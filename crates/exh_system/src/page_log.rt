@@ -31,7 +31,7 @@ impl PageLog {
     pub fn has_change(&self, rt: &HostRuntime) -> io::Result<bool> {
         match fs::symlink_metadata(rt, self.path.as_str()) {
             Ok(about) => Ok(!about.is_file() || about.len() >= LEAST),
-            Err(error) if error.kind() == ErrorKind::NotFound => Ok(false),
+            Err(error) if tells_of_none(&error) => Ok(false),
             Err(error) => Err(error),
         }
     }
@@ -41,8 +41,16 @@ impl PageLog {
     /// An error: the system doesn't remove it.
     pub fn remove(&self, rt: &HostRuntime) -> io::Result<()> {
         match fs::remove_file(rt, self.path.as_str()) {
-            Err(error) if error.kind() == ErrorKind::NotFound => Ok(()),
+            Err(error) if tells_of_none(&error) => Ok(()),
             removed => removed,
         }
     }
+}
+
+/// Whether an error of the system tells that nothing is under a name: it is free, or too long for any file.
+pub(crate) fn tells_of_none(error: &io::Error) -> bool {
+    matches!(
+        error.kind(),
+        ErrorKind::NotFound | ErrorKind::InvalidFilename
+    )
 }
