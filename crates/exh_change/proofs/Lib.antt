@@ -1,4 +1,3 @@
-pub mod EditLists
 pub mod Counts
 pub mod Formed
 pub mod OfFile

@@ -1,4 +1,3 @@
-pub mod EditList
 pub mod Drafts
 pub mod Changes
 pub mod ChangeLaws

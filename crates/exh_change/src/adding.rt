@@ -8,7 +8,7 @@ ghost use Rattle.exh_cells.specs.declared.places.TheConstants.{GROUP_PAGES};
 ghost use Rattle.exh_cells.specs.PlacedFile.{stamped_block, walk_block as block_of_cells};
 ghost use Rattle.exh_cells.specs.Places.{end_block_of, group_in, page_block_of, walk_block_of};
 ghost use Rattle.exh_edits.specs.BlockEdits.{with_block, with_edits};
-ghost use Rattle.exh_change.specs.EditList.{AreEdits};
+ghost use Rattle.exh_edits.specs.EditsInTurn.{AreEdits};
 ghost use Rattle.exh_cells.specs.declared.fit.TheConstants.{COUNTS_LEN};
 ghost use Rattle.exh_cells.specs.StampedHeader.{IsStampedHeader};
 ghost use Rattle.exh_direct.specs.DirectLaws.{IsOtherFault};
@@ -21,7 +21,6 @@ ghost use Rattle.exh_change.specs.Drafts.{IsOf, IsSound, OfEach, pseudo_in};
 
 use crate::cells::{cells_of, new_cell};
 use crate::draft::Draft;
-use crate::edits::put_block;
 use crate::images::{header_image, page_image, walk_image};
 use exh_cells::{Cell, StampedHeader, group_of, page_block, walk_block};
 use exh_direct::{Blocks, DirectFault};

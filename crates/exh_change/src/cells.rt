@@ -12,7 +12,6 @@ ghost use Rattle.exh_walked.specs.WalkBlocks.{pages_in};
 ghost use Rattle.exh_change.specs.Drafts.{IsOf, IsSound, OfEach};
 
 use crate::draft::Draft;
-use crate::edits::put_block;
 use crate::images::walk_image;
 use crate::reading::read_edited;
 use exh_cells::{Cell, GROUP_PAGES, SLOTS, Slot, decode_cells, group_of, walk_block};

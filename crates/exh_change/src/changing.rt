@@ -18,12 +18,11 @@ ghost use Rattle.exh_change.specs.ChangeLaws.{IsAnswered, IsAnsweredAt, IsChange
 ghost use Rattle.exh_walked.specs.PlacedLaws.{map_in};
 ghost use Rattle.exh_change.specs.Changes.{Becomes, IsHomeOf, IsLater};
 ghost use Rattle.exh_change.specs.Drafts.{IsOf, IsSound, OfEach, pseudo_in};
-ghost use Rattle.exh_change.specs.EditList.{AreEdits};
+ghost use Rattle.exh_edits.specs.EditsInTurn.{AreEdits};
 
 use crate::answer::{answer, record_count};
 use crate::changed::Changed;
 use crate::draft::Draft;
-use crate::edits::put_block;
 use crate::halves::prefix_of;
 use crate::images::header_image;
 use crate::merging::merge;

@@ -11,7 +11,6 @@ mod cells;
 mod changed;
 mod changing;
 mod draft;
-mod edits;
 #[cfg(test)]
 mod examples;
 mod halves;

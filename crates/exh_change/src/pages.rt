@@ -11,7 +11,6 @@ ghost use Rattle.exh_walked.specs.WalkBlocks.{pages_in};
 ghost use Rattle.exh_change.specs.Drafts.{IsOf, IsSound, OfEach, pseudo_in};
 
 use crate::draft::Draft;
-use crate::edits::put_block;
 use crate::images::page_image;
 use crate::reading::read_edited;
 use exh_cells::page_block;

@@ -2,9 +2,9 @@ use Rattle.std.proofs.Common.{List, length, refl, subst, nat_eq, false, ◌≡�
 use Rattle.std.proofs.lemmas.Option.{slice_get_read, slice_get_within}
 use Rattle.std.specs.List.{list_any}
 use Rattle.exh_edits.specs.declared.block_edit.BlockEdit.{BlockEdit}
-use Rattle.exh_change.specs.EditList.{HasPlace, StandsOver, places_of}
-use Rattle.exh_change.proofs.EditLists.{stands_over, stood_before}
-use Rattle.exh_change.proofs.edits.block_in.Goals as goal
+use Rattle.exh_edits.specs.EditsInTurn.{HasPlace, StandsOver, places_of}
+use Rattle.exh_edits.proofs.EditsInTurn.{stands_over, stood_before}
+use Rattle.exh_edits.proofs.edits.block_in.Goals as goal
 
 pub returns-in-Some-clause-some : goal.returns-in-Some-clause-some
 returns-in-Some-clause-some c =

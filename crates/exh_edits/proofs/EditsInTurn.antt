@@ -9,7 +9,7 @@ use Rattle.exh_edits.specs.declared.block_edit.BlockEdit.{BlockEdit}
 use Rattle.exh_edits.specs.BlockEdits.{with_block, with_edits}
 use Rattle.exh_edits.specs.EditLaws.{StandsAt}
 use Rattle.exh_edits.specs.EditsKeepOthers.{BlockStands, IsEditOf, LengthsGrow, OthersStand}
-use Rattle.exh_change.specs.EditList.{AreEdits, AreInTurn, HasPlace, IsMade, StandsOver, StoodBefore, places_of}
+use Rattle.exh_edits.specs.EditsInTurn.{AreAmong, AreEdits, AreInTurn, AreMoreAt, HasPlace, IsMade, StandsOver, StoodBefore, places_of}
 
 abbrev pub AreBlocks : List BlockEdit → Type 0
 AreBlocks edits = AllByRecursion (λ (edit : BlockEdit). length edit.block ≡ 4096) edits
@@ -284,3 +284,14 @@ same_edits edits first count place index block are (old, there, same) block_len 
 
 pub in_file : (edits : List BlockEdit) (first count place index : ℕ) → AreEdits first edits count → HasPlace edits place index → place < count
 in_file edits first count place index are (old, there, same) = omega (arith, same, (within_turn edits first count index old are.turn there).1)
+
+-- ---- the places of edits
+
+pub more_again : (edits : List BlockEdit) (place index : ℕ) (block : List ℕ) → HasPlace edits place index → AreMoreAt (place ∷ []) edits (slice_set edits index (record { place = place; block = block }))
+more_again edits place index block (old, there, same) places own all =
+    let edit : BlockEdit = record { place = place; block = block } in
+    subst (AreAmong places) (sym (places_set edits index old block there) ∙ ap (λ (place : ℕ). places_of (slice_set edits index (record { place = place; block = block }))) same) all
+
+pub more_pushed : (edits : List BlockEdit) (edit : BlockEdit) → AreMoreAt (edit.place ∷ []) edits (edits ++ edit ∷ [])
+more_pushed edits edit places own all =
+    subst (AreAmong places) (sym (map_push (λ (edit : BlockEdit). edit.place) edits edit)) (AllByRecursion-push (λ (place : ℕ). list_any (nat_eq place) places ≡ true) (places_of edits) edit.place all own.0)
