@@ -24,6 +24,7 @@ use crate::draft::Draft;
 use crate::images::{header_image, page_image, walk_image};
 use exh_cells::{Cell, StampedHeader, group_of, page_block, walk_block};
 use exh_direct::{Blocks, DirectFault};
+use exh_edits::put_block;
 use exh_format::push_item;
 use exh_page::Page;
 use exh_prefix::PageNo;

@@ -17,6 +17,7 @@ use crate::reading::read_edited;
 use exh_cells::{Cell, GROUP_PAGES, SLOTS, Slot, decode_cells, group_of, walk_block};
 use exh_codec::BLOCK_LEN;
 use exh_direct::{Blocks, DirectFault};
+use exh_edits::put_block;
 use exh_walked::page_count;
 use std::alloc::Global;
 

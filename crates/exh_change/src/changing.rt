@@ -32,6 +32,7 @@ use crate::splitting::make_room;
 use exh_calls::{Call, Reply};
 use exh_cells::StampedHeader;
 use exh_direct::{Blocks, DirectFault};
+use exh_edits::put_block;
 use exh_keyer::Keyer;
 use exh_walked::{Home, find_home};
 use std::alloc::{AllocError, Global};

@@ -16,6 +16,7 @@ use crate::reading::read_edited;
 use exh_cells::page_block;
 use exh_codec::{BLOCK_LEN, decode_page_of};
 use exh_direct::{Blocks, DirectFault};
+use exh_edits::put_block;
 use exh_page::Page;
 use exh_prefix::Version;
 use std::alloc::{AllocError, Global};

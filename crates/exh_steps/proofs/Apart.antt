@@ -6,7 +6,7 @@ use Rattle.exh_prefix.specs.Leading.{ward_of, ward_prefix}
 use Rattle.exh_prefix.specs.LowLemmas.{front_shorter}
 use Rattle.exh_page.specs.declared.page.Page.{Page}
 use Rattle.exh_page.specs.declared.page.Page.TheVariants.{Forward, Live}
-use Rattle.exh_page.specs.Page.{low_bound, with_records}
+use Rattle.exh_page.specs.Page.{low_bound}
 use Rattle.exh_table.specs.Table.{TableMap}
 use Rattle.exh_legal.specs.BareLemmas.{bare_at}
 use Rattle.exh_legal.specs.LegalPlaceLemmas.{home_bare}
