@@ -1,3 +1,4 @@
 pub mod Drafts
+pub mod Leaves
 pub mod Changes
 pub mod ChangeLaws

@@ -1,4 +1,4 @@
-ghost use Rattle.std.specs.Prelude.{◌≡◌, ◌<◌, ◌≤◌, ◌*◌, List, ◌+◌, ◌-◌, ◌^◌, ℕ, length, slice_index, IfOk, IfErr, MatchResult, OnOk};
+ghost use Rattle.std.specs.Prelude.{◌≡◌, ◌<◌, ◌≤◌, ◌*◌, List, ◌∷◌, ◌+◌, ◌-◌, ◌^◌, ℕ, length, slice_index, IfOk, IfErr, MatchResult, OnOk};
 ghost use Rattle.exh_page.specs.Page.{IsWellFormed};
 ghost use Rattle.exh_prefix.specs.Version.{second_version};
 ghost use Rattle.exh_codec.specs.PageImage.{IsPage};
@@ -16,7 +16,7 @@ ghost use Rattle.exh_direct.specs.KnownBlocks.{IsCount};
 ghost use Rattle.exh_edits.specs.PlacedEdits.{counted_more, with_more};
 ghost use Rattle.exh_steps.specs.PlacedSteps.{new_cell};
 ghost use Rattle.exh_walked.specs.WalkBlocks.{pages_in};
-ghost use Rattle.exh_change.specs.Changes.{IsLater};
+ghost use Rattle.exh_change.specs.Changes.{EditsMore, IsLater, blocks_at};
 ghost use Rattle.exh_change.specs.Drafts.{IsOf, IsSound, OfEach, pseudo_in};
 
 use crate::cells::{cells_of, new_cell};
@@ -49,6 +49,7 @@ pub(crate) fn add_page<B: Blocks>(
     ensures later { IsLater draft.old draft.new }
     ensures sound { OnOk result (IsSound draft.new) }
     ensures pages { OnOk result (pages_in draft.new.header ≡ pages_in draft.old.header + 1) }
+    ensures more { OnOk result (EditsMore (0 ∷ blocks_at (pages_in draft.old.header)) draft.old draft.new) }
     ensures legal { IsStampedHeader (counted_more ward draft.old.header) → OfEach (B.known blocks.old) draft.old (λ base file. MatchResult result
         (λ _. IsOf base draft.new (with_more ward page.now (new_cell (slice_index draft.old.header.page_counts ward)) file)) IsOtherFault) }
 {
@@ -101,6 +102,7 @@ fn put_three(
     ensures edits { AreEdits draft.new.edits.first draft.new.edits.items.items draft.new.edits.count }
     ensures count { OnOk result (draft.new.edits.count ≡ end_block_of (place + 1)) }
     ensures valid { OnOk result (IsPage second_version (pseudo_in draft.old) page.now) }
+    ensures more { OnOk result (EditsMore (0 ∷ blocks_at place) draft.old draft.new) }
     ensures made { OnOk result ((base : List ℕ) → length base ≡ BLOCK_LEN * draft.old.edits.first
         → with_edits draft.new.edits.items.items base ≡ with_block (page_block_of place) (block_of_page page.now) (with_block (walk_block_of (group_in place)) (block_of_cells cells.now) (with_block 0 (stamped_block header.now) (with_edits draft.old.edits.items.items base)))) }
 {
