@@ -21,10 +21,9 @@ ghost use Rattle.exh_change.specs.Drafts.{IsOf, IsSound, OfEach, pseudo_in};
 
 use crate::cells::{cells_of, new_cell};
 use crate::draft::Draft;
-use crate::images::{header_image, page_image, walk_image};
 use exh_cells::{Cell, StampedHeader, group_of, page_block, walk_block};
 use exh_direct::{Blocks, DirectFault};
-use exh_edits::put_block;
+use exh_edits::{header_image, page_image, put_block, walk_image};
 use exh_format::push_item;
 use exh_page::Page;
 use exh_prefix::PageNo;

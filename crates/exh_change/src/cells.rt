@@ -14,12 +14,11 @@ ghost use Rattle.exh_change.specs.Changes.{EditsMore};
 ghost use Rattle.exh_change.specs.Drafts.{IsOf, IsSound, OfEach};
 
 use crate::draft::Draft;
-use crate::images::walk_image;
 use crate::reading::read_edited;
 use exh_cells::{Cell, GROUP_PAGES, SLOTS, Slot, decode_cells, group_of, walk_block};
 use exh_codec::BLOCK_LEN;
 use exh_direct::{Blocks, DirectFault};
-use exh_edits::put_block;
+use exh_edits::{put_block, walk_image};
 use exh_walked::page_count;
 use std::alloc::Global;
 

@@ -14,8 +14,6 @@ mod draft;
 #[cfg(test)]
 mod examples;
 mod halves;
-mod header_block;
-mod images;
 mod merging;
 mod pages;
 mod reading;

@@ -13,12 +13,11 @@ ghost use Rattle.exh_change.specs.Changes.{EditsMore};
 ghost use Rattle.exh_change.specs.Drafts.{IsOf, IsSound, OfEach, pseudo_in};
 
 use crate::draft::Draft;
-use crate::images::page_image;
 use crate::reading::read_edited;
 use exh_cells::page_block;
 use exh_codec::{BLOCK_LEN, decode_page_of};
 use exh_direct::{Blocks, DirectFault};
-use exh_edits::put_block;
+use exh_edits::{page_image, put_block};
 use exh_page::Page;
 use exh_prefix::Version;
 use std::alloc::{AllocError, Global};
