@@ -4,7 +4,6 @@ ghost use Rattle.exh_codec.specs.declared.block.TheConstants.{BLOCK_LEN};
 ghost use Rattle.exh_edits.specs.EditsInTurn.{AreEdits, AreMoreAt, HasPlace, IsMade, StandsOver, StoodBefore, places_of};
 
 use crate::block_edit::BlockEdit;
-use crate::laws::edited_blocks_stand;
 use exh_codec::BLOCK_LEN;
 use exh_format::push_item;
 use std::alloc::{AllocError, Global};
@@ -46,7 +45,6 @@ pub fn put_block(edits: &mut Edits, place: u32, block: &[u8; BLOCK_LEN]) -> Resu
     ensures made { OnOk result (IsMade edits.old.first edits.old.items.items edits.new.items.items place block.now) }
     ensures more { OnOk result (AreMoreAt (place ∷ []) edits.old.items.items edits.new.items.items) }
 {
-    edited_blocks_stand();
     let edit = BlockEdit {
         place,
         block: *block,
@@ -80,7 +78,6 @@ pub fn block_in(edits: &Edits, place: u32) -> Option<[u8; BLOCK_LEN]>
     ensures some { IfSome result (StandsOver edits.now.first edits.now.items.items place) }
     ensures none { IfNone result (StoodBefore edits.now.first edits.now.items.items edits.now.count place) }
 {
-    edited_blocks_stand();
     match index_of(&edits.items, place) {
         Some(index) => Some(edits.items[index].block),
         None => None,

@@ -32,8 +32,7 @@ returns-in-Some-clause-count c =
 pub returns-in-Some-clause-made : goal.returns-in-Some-clause-made
 returns-in-Some-clause-made c =
     let edits = c.args.edits.now in
-    let laws = c.edited_blocks_stand.ensures in
-    is_made_again laws.block laws.others laws.length edits.items.items edits.first edits.count c.args.place c.in-Some.index c.args.block.now c.requires.edits (subst (λ (items : List BlockEdit). HasPlace items c.args.place c.in-Some.index) c.deref.ensures.value c.in-Some.ensures.some) c.told-block
+    is_made_again edits.items.items edits.first edits.count c.requires.edits c.args.place c.in-Some.index c.args.block.now (subst (λ (items : List BlockEdit). HasPlace items c.args.place c.in-Some.index) c.deref.ensures.value c.in-Some.ensures.some) c.told-block
 
 pub returns-in-None-clause-edits : goal.returns-in-None-clause-edits
 returns-in-None-clause-edits c =
