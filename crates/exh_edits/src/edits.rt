@@ -44,6 +44,8 @@ pub fn put_block(edits: &mut Edits, place: u32, block: &[u8; BLOCK_LEN]) -> Resu
     ensures count { OnOk result (edits.new.count ≡ max edits.old.count (place + 1)) }
     ensures made { OnOk result (IsMade edits.old.first edits.old.items.items edits.new.items.items place block.now) }
     ensures more { OnOk result (AreMoreAt (place ∷ []) edits.old.items.items edits.new.items.items) }
+    ensures err { OnErr result (edits.new.items.items ≡ edits.old.items.items) }
+    ensures err_count { OnErr result (edits.new.count ≡ edits.old.count) }
 {
     let edit = BlockEdit {
         place,
