@@ -52,7 +52,7 @@ abbrev pub IsOfPrefix : List Bool → Page → Type 0
 IsOfPrefix prefix (Live own link records) = own ≡ prefix
 IsOfPrefix prefix (Forward low target) = ⊥
 
--- none where it forwards
+-- the prefix of a live page, none where it forwards
 abbrev pub prefix_in : Page → List Bool
 prefix_in (Live prefix link records) = prefix
 prefix_in (Forward low target) = []
@@ -63,17 +63,17 @@ prefix_in (Forward low target) = []
 abbrev pub blocks_at : ℕ → List ℕ
 blocks_at place = page_block_of place ∷ walk_block_of (group_in place) ∷ []
 
--- the blocks of these places were edited, too
+-- blocks of these places were edited, and no others
 abbrev pub EditsMore : List ℕ → Draft → Draft → Type 0
 EditsMore places old new = AreMoreAt places old.edits.items.items new.edits.items.items
 
--- one of two halves is the home, the other one of the page at a place, and their blocks and the header's were edited
+-- the page at a place was split, one half is the home, and the blocks of both and the header's were edited, no others
 pub record IsHalved (old new : Draft) (place : ℕ) (home : Home) : Type 0 where
   pub right : ℕ
   pub which : IsOneOf home.place place right
   pub more : EditsMore (0 ∷ blocks_at place ++ blocks_at right) old new
 
--- the edits are of as many places as so many digits take, among which are the header's and the home's, with one digit also its cell's
+-- the edits are of at most as many places as so many digits take; among these are the header's and the home's, and from one digit on its cell's
 pub record AreCounted (draft : Draft) (home : Home) (digits : ℕ) : Type 0 where
   pub places : List ℕ
   pub few : length places ≤ edits_for digits
@@ -88,7 +88,7 @@ pub record HasGrown (first home : Home) (draft : Draft) : Type 0 where
   pub within : digits ≤ LIMIT
   pub counted : AreCounted draft home digits
 
--- nothing changed, or the blocks of two pages did
+-- the draft is as it was, or blocks of two pages were edited, and the cell of one
 abbrev pub MayEditTwo : Draft → Draft → Type 0
 MayEditTwo old new = (new ≡ old) ⊎ ((left : ℕ) × (right : ℕ) × EditsMore (page_block_of right ∷ blocks_at left) old new)
 
@@ -105,11 +105,11 @@ pub record IsUnited (base : List ℕ) (file : PlacedFile) (prefix : List Bool) (
   pub may : MayMerge file prefix left right
   pub leaves : leaves_in becomes.new ≡ united_leaves prefix left right file
 
--- the left half was merged, or may not be
+-- the left half at a place was merged with the right one, or no page may be
 abbrev pub SettlesLeft : List ℕ → PlacedFile → List Bool → ℕ → Draft → Draft → Type 0
 SettlesLeft base file prefix left old new = ((right : ℕ) × IsUnited base file prefix left right new) ⊎ (((right : ℕ) → MayMerge file prefix left right → ⊥) × (new ≡ old))
 
--- the page at a place is one of them
+-- and the page at a place is one of them
 pub record IsUnitedAt (base : List ℕ) (file : PlacedFile) (place : ℕ) (draft : Draft) : Type 0 where
   pub prefix : List Bool
   pub left : ℕ

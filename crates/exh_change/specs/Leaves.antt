@@ -12,12 +12,12 @@ use Rattle.exh_cells.specs.PlacedFile.{PlacedFile}
 use Rattle.exh_edits.specs.declared.block_edit.BlockEdit.{BlockEdit}
 use Rattle.exh_steps.specs.PlacedSteps.{IsLiveIn, slot_of}
 
--- the prefix of a live page
+-- the prefix of a live page, none where it forwards
 abbrev pub leaf_of : Page → Option (List Bool)
 leaf_of (Live prefix link records) = Some prefix
 leaf_of (Forward low target) = None
 
--- by the places of the pages: none where one forwards
+-- of each page, in the order of their places
 abbrev pub leaves_in : PlacedFile → List (Option (List Bool))
 leaves_in file = map leaf_of file.pages
 
@@ -36,11 +36,11 @@ most_edits (Put key value) = 3 + 2 * LIMIT
 most_edits (Del key) = 5
 most_edits (Swap key old new) = 2
 
--- where a leaf becomes longer or shorter by so many digits: the header and the page, with the first digit the walk block of its cell, and with each one two blocks more
+-- where a leaf becomes longer or shorter by so many digits: the header's and the page's, from one digit on the walk block of its cell, and with each digit a page and its walk block more
 abbrev pub edits_for : ℕ → ℕ
 edits_for digits = 2 + min digits 1 + 2 * digits
 
--- no more than for the digits by which the pseudokey's leaf becomes longer or shorter
+-- no more than for the digits by which the pseudokey's leaf is longer or shorter in the new file
 pub record AreFew (file new : PlacedFile) (pseudokey : ℕ) (edits : List BlockEdit) : Type 0 where
   pub old_leaf : List Bool
   pub new_leaf : List Bool
