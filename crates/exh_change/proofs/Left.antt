@@ -1,5 +1,5 @@
 -- The file that a call leaves, step by step.
-use Rattle.std.proofs.Common.{◌≡◌, ℕ, Bool, true, false, List, [], slice_set, inl, inr, refl, sym, ap, ◌∙◌, subst}
+use Rattle.std.proofs.Common.{◌≡◌, ℕ, Bool, true, false, List, [], length, slice_get, slice_set, Option, arith, inl, inr, refl, sym, ap, ◌∙◌, subst}
 use Rattle.exh_keyer.specs.Pseudokey.{any_pseudokey}
 use Rattle.exh_prefix.specs.PrefixListLemmas.{set_same}
 use Rattle.exh_page.specs.KeyMap.{KeyMap}
@@ -19,7 +19,9 @@ use Rattle.exh_walked.specs.declared.home.Home.{Home}
 use Rattle.exh_walked.specs.PlacedHome.{IsHomeIn}
 use Rattle.exh_walked.specs.PlacedLaws.{map_in}
 use Rattle.exh_change.specs.declared.draft.Draft.{Draft}
-use Rattle.exh_change.specs.ChangeLaws.{IsAnswered, IsChange, IsLeft, map_then, reply_in, stamped_anew}
+use Rattle.exh_calls.specs.declared.call.Call.TheVariants.{Del}
+use Rattle.exh_change.specs.ChangeLaws.{IsAnswered, IsChange, IsLeft, SettlesHome, key_in, map_then, reply_in, stamped_anew}
+use Rattle.exh_change.specs.Leaves.{AreFew, IsLeaf, IsSettled, leaves_in}
 use Rattle.exh_change.specs.Changes.{Becomes, HasRoom, IsLater}
 use Rattle.exh_change.specs.Drafts.{IsOf}
 use Rattle.exh_change.proofs.Rooms.{no_step, steps}
@@ -73,10 +75,25 @@ kept_map file other call pseudokey home first settings at machines kept =
     let same : with_page home.place (page_after other call home.page) other ≡ other = (λ i. let file : PlacedFile = record { header = other.header; pages = pages i; cells = other.cells } in file) in
     sym (same_then file other call settings first.map_is) ∙ sym machines.step.map_is ∙ ap map_in same ∙ first.map_is
 
+-- files of the same leaves
+
+pub leaf_too : (new other : PlacedFile) (pseudokey : ℕ) (prefix : List Bool) → leaves_in new ≡ leaves_in other → IsLeaf new pseudokey prefix → IsLeaf other pseudokey prefix
+leaf_too new other pseudokey prefix same leaf = record { place = leaf.place; there = ap (λ (leaves : List (Option (List Bool))). slice_get leaves leaf.place) (sym same) ∙ leaf.there; begins = leaf.begins }
+
+few_too : (file new other : PlacedFile) (pseudokey : ℕ) (edits : List BlockEdit) → leaves_in new ≡ leaves_in other → AreFew file new pseudokey edits → AreFew file other pseudokey edits
+few_too file new other pseudokey edits same are = record { old_leaf = are.old_leaf; new_leaf = are.new_leaf; old_is = are.old_is; new_is = leaf_too new other pseudokey are.new_leaf same are.new_is; few = are.few }
+
+settled_too : (file new other : PlacedFile) (place : ℕ) → leaves_in new ≡ leaves_in other → IsSettled file place new → IsSettled file place other
+settled_too file new other place same (inl is) = inl (record { prefix = is.prefix; left = is.left; right = is.right; one = is.one; may = is.may; leaves = sym same ∙ is.leaves })
+settled_too file new other place same (inr (not, leaves)) = inr (not, sym same ∙ leaves)
+
+settles_too : (file new other : PlacedFile) (call : Call) → leaves_in new ≡ leaves_in other → SettlesHome file call new → SettlesHome file call other
+settles_too file new other call same (home, at, settled) = (home, at, settled_too (with_page home.place (page_after file call home.page) file) new other home.place same settled)
+
 -- the stamp's, behind all others
 pub left_stamped : StampsKeepLegal → (base : List ℕ) (old settled last : Draft) (file answered : PlacedFile) (call : Call) (stamp : ℕ) → IsLater old settled → IsOf base old file → IsStep file (map_then file call) answered → (becomes : Becomes base answered (map_in answered) settled)
-    → ((base : List ℕ) (file : PlacedFile) → IsOf base settled file → IsOf base last (with_header (stamped_anew stamp file.header) file)) → IsLeft base file call stamp last
-left_stamped law base old settled last file answered call stamp later is step becomes put =
+    → ((base : List ℕ) (file : PlacedFile) → IsOf base settled file → IsOf base last (with_header (stamped_anew stamp file.header) file)) → AreFew file becomes.new (key_in file call) last.edits.items.items → ((key : List ℕ) → call ≡ Del key → SettlesHome file call becomes.new) → IsLeft base file call stamp last
+left_stamped law base old settled last file answered call stamp later is step becomes put few settles =
     let new = becomes.new in
     let header = stamped_anew stamp new.header in
     let stamped = law new becomes.step.tables header becomes.step.legal refl refl in
@@ -88,6 +105,8 @@ left_stamped law base old settled last file answered call stamp later is step be
       settings = settings_kept base old settled file new later is becomes.is;
       stamp_is = refl;
       before_is = stamp_kept base old settled file new later is becomes.is;
+      few = few_too file new (with_header header new) (key_in file call) last.edits.items.items refl few;
+      settled = λ key del. settles_too file new (with_header header new) call refl (settles key del);
     }
 
 -- ---- the answer
@@ -105,6 +124,8 @@ is_change file tables bytes call stamp draft reply true changed legal answered s
       settings = left.settings;
       places = left.step.places;
       stamped = inr (left.stamp_is, left.before_is);
+      few = subst (AreFew file left.new (key_in file call)) (sym (edits refl)) left.few;
+      settled = λ key del some. left.settled key del;
     }
 is_change file tables bytes call stamp draft reply false changed legal answered same edits none = record {
   reply = same ∙ answered.reply_is;
@@ -115,4 +136,6 @@ is_change file tables bytes call stamp draft reply false changed legal answered 
   settings = refl;
   places = (no_step file tables legal.legal).places;
   stamped = inl (none refl, answered.kept refl);
+  few = record { old_leaf = answered.leaf.0; new_leaf = answered.leaf.0; old_is = answered.leaf.1; new_is = answered.leaf.1; few = omega (arith, ap length (none refl)) };
+  settled = λ key del some. absurd (some (none refl));
 }

@@ -1,10 +1,13 @@
-pub mod EditLists
 pub mod Counts
 pub mod Formed
 pub mod OfFile
+pub mod EditPlaces
 pub mod Rooms
 pub mod Homes
 pub mod SplitSteps
 pub mod MergeSteps
+pub mod LeafLemmas
+pub mod Settling
 pub mod Answered
 pub mod Left
+pub mod Outcomes

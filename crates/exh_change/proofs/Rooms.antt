@@ -1,5 +1,5 @@
 -- Splits one after the other.
-use Rattle.std.proofs.Common.{◌≡◌, ℕ, zero, suc, ◌≤◌, Bool, false, List, [], ◌∷◌, length, take, Option, Some, refl, sym, ap, ◌∙◌, subst, arith}
+use Rattle.std.proofs.Common.{◌≡◌, ℕ, zero, suc, ◌<◌, ◌≤◌, false, List, [], ◌∷◌, length, take, Option, Some, refl, sym, ap, ◌∙◌, subst, arith}
 use Rattle.std.proofs.lemmas.List.{length-map, length-take, take_all}
 use Rattle.exh_page.specs.declared.page.Page.{Page}
 use Rattle.exh_page.specs.declared.page.Page.TheVariants.{Forward, Live}
@@ -17,12 +17,8 @@ use Rattle.exh_walked.specs.declared.home.Home.{Home}
 use Rattle.exh_walked.specs.PlacedHome.{IsHomeIn}
 use Rattle.exh_walked.specs.PlacedLaws.{map_in}
 use Rattle.exh_change.specs.declared.draft.Draft.{Draft}
-use Rattle.exh_change.specs.Changes.{HasRoom, IsHomeOf, IsLater}
+use Rattle.exh_change.specs.Changes.{HasGrown, HasRoom, IsHomeOf, IsLater, prefix_in}
 use Rattle.exh_change.specs.Drafts.{IsOf, IsSound}
-
-abbrev pub prefix_in : Page → List Bool
-prefix_in (Live prefix link records) = prefix
-prefix_in (Forward low target) = []
 
 -- ---- steps
 
@@ -58,6 +54,10 @@ pub overflow_full : (cap pseudokey : ℕ) (page : Page) (call : Call) → Overfl
 overflow_full cap pseudokey (Live prefix link records) call over = over.0
 overflow_full cap pseudokey (Forward low target) call over = absurd over
 
+pub overflow_short : (cap pseudokey : ℕ) (page : Page) (call : Call) → OverflowsPage cap pseudokey page call → length (prefix_in page) < 20
+overflow_short cap pseudokey (Live prefix link records) call over = over.1
+overflow_short cap pseudokey (Forward low target) call over = absurd over
+
 pub overflow_sets : (cap pseudokey : ℕ) (page : Page) (call : Call) → OverflowsPage cap pseudokey page call → sets_new call ≡ false → ⊥
 overflow_sets cap pseudokey (Live prefix link records) call over none = false≢true (sym none ∙ over.3)
 overflow_sets cap pseudokey (Forward low target) call over none = over
@@ -74,5 +74,6 @@ pub record IsOnWay (known_old known : Option (List ℕ)) (old draft : Draft) (fi
   pub later : IsLater old draft
   pub sound : IsSound draft
   pub home_of : IsHomeOf draft pseudokey home
-  pub still : sets_new call ≡ false → draft.header ≡ old.header
+  pub still : sets_new call ≡ false → (draft ≡ old) × (home ≡ first)
+  pub grown : old.edits.items.items ≡ [] → HasGrown first home draft
   pub legal : (base : List ℕ) (file : PlacedFile) → known_old ≡ Some base → IsOf base old file → (tables : List TableMap) → IsLegalPlaced file tables → IsHomeIn file pseudokey first → HasRoom base file draft pseudokey home

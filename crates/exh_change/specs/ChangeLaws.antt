@@ -1,10 +1,12 @@
 -- What a call makes of a legal page file of version 3.
-use Rattle.std.specs.Prelude.{◌≡◌, ◌⊎◌, ℕ, Bool, true, false, List, [], length, take}
+use Rattle.std.specs.Prelude.{◌≡◌, ◌≢◌, ◌⊎◌, ℕ, Bool, true, false, List, [], length, take}
 use Rattle.exh_keyer.specs.Pseudokey.{any_pseudokey}
 use Rattle.exh_table.specs.Table.{TableMap}
 use Rattle.exh_page.specs.KeyMap.{KeyMap}
 use Rattle.exh_calls.specs.declared.call.Call.{Call}
 use Rattle.exh_calls.specs.declared.reply.Reply.{Reply}
+use Rattle.exh_calls.specs.declared.call.Call.TheVariants.{Del}
+use Rattle.exh_calls.specs.Call.{key_of}
 use Rattle.exh_calls.specs.MapMachine.{map_after, reply_of}
 use Rattle.exh_cells.specs.declared.stamped_header.StampedHeader.{StampedHeader}
 use Rattle.exh_cells.specs.LegalPlaced.{IsLegalPlacedFile}
@@ -14,10 +16,12 @@ use Rattle.exh_edits.specs.BlockEdits.{with_edits}
 use Rattle.exh_edits.specs.PlacedEdits.{with_page}
 use Rattle.exh_steps.specs.PlacedSteps.{IsStep, page_after, reply_at}
 use Rattle.exh_walked.specs.declared.home.Home.{Home}
+use Rattle.exh_walked.specs.PlacedHome.{IsHomeIn}
 use Rattle.exh_walked.specs.PlacedLaws.{map_in}
 use Rattle.exh_change.specs.declared.changed.Changed.{Changed}
 use Rattle.exh_change.specs.declared.draft.Draft.{Draft}
 use Rattle.exh_change.specs.Drafts.{IsOf}
+use Rattle.exh_change.specs.Leaves.{AreFew, IsLeaf, IsSettled}
 
 -- the map machine's reply and map
 abbrev pub reply_in : PlacedFile → Call → Reply
@@ -26,11 +30,19 @@ reply_in file call = reply_of file.header.settings.cap (any_pseudokey file.heade
 abbrev pub map_then : PlacedFile → Call → KeyMap
 map_then file call = map_after file.header.settings.cap (any_pseudokey file.header.settings.keyer) (map_in file) call
 
+-- the pseudokey of the call's key
+abbrev pub key_in : PlacedFile → Call → ℕ
+key_in file call = any_pseudokey file.header.settings.keyer (key_of call)
+
+-- the key's home, with what the call leaves of its records, is merged with its buddy exactly where both may be
+abbrev pub SettlesHome : PlacedFile → Call → PlacedFile → Type 0
+SettlesHome file call new = (home : Home) × IsHomeIn file (key_in file call) home × IsSettled (with_page home.place (page_after file call home.page) file) home.place new
+
 -- no block changes, and the map stays; or the file has the new stamp, and before it its old own one
 abbrev pub IsStamped : PlacedFile → Call → ℕ → List BlockEdit → PlacedFile → Type 0
 IsStamped file call stamp edits new = ((edits ≡ []) × (map_then file call ≡ map_in file)) ⊎ ((new.header.stamp ≡ stamp) × (new.header.before ≡ file.header.stamp))
 
--- the reply is the map machine's; with the edits the bytes are those of a legal file with the map that the machine leaves, the same settings, and each page of the old one at its place
+-- the reply is the map machine's; with the edits, which are few, the bytes are those of a legal file with the map that the machine leaves, the same settings, and each page of the old one at its place; a del that changes a block merges the pages that may be
 pub record IsChange (file : PlacedFile) (bytes : List ℕ) (call : Call) (stamp : ℕ) (changed : Changed) : Type 0 where
   pub reply : changed.reply ≡ reply_in file call
   pub new : PlacedFile
@@ -40,6 +52,8 @@ pub record IsChange (file : PlacedFile) (bytes : List ℕ) (call : Call) (stamp 
   pub settings : new.header.settings ≡ file.header.settings
   pub places : take (length file.pages) (lows_of new.pages) ≡ lows_of file.pages
   pub stamped : IsStamped file call stamp changed.edits.items new
+  pub few : AreFew file new (key_in file call) changed.edits.items
+  pub settled : (key : List ℕ) → call ≡ Del key → changed.edits.items ≢ [] → SettlesHome file call new
 
 -- ---- of drafts
 
@@ -61,8 +75,11 @@ pub record IsLeft (base : List ℕ) (file : PlacedFile) (call : Call) (stamp : �
   pub settings : new.header.settings ≡ file.header.settings
   pub stamp_is : new.header.stamp ≡ stamp
   pub before_is : new.header.before ≡ file.header.stamp
+  pub few : AreFew file new (key_in file call) draft.edits.items.items
+  pub settled : (key : List ℕ) → call ≡ Del key → SettlesHome file call new
 
 pub record IsAnswered (base : List ℕ) (file : PlacedFile) (call : Call) (stamp : ℕ) (draft : Draft) (reply : Reply) (changes : Bool) : Type 0 where
   pub reply_is : reply ≡ reply_in file call
   pub kept : changes ≡ false → map_then file call ≡ map_in file
   pub left : changes ≡ true → IsLeft base file call stamp draft
+  pub leaf : (prefix : List Bool) × IsLeaf file (key_in file call) prefix

@@ -8,7 +8,7 @@ use Rattle.exh_cells.specs.StampedHeader.{IsStampedHeader}
 use Rattle.exh_edits.specs.BlockEdits.{with_edits}
 use Rattle.exh_walked.specs.WalkBlocks.{pages_in}
 use Rattle.exh_change.specs.declared.draft.Draft.{Draft}
-use Rattle.exh_change.specs.EditList.{AreEdits}
+use Rattle.exh_edits.specs.EditsInTurn.{AreEdits}
 
 -- it ends behind as many pages as its header counts
 pub record IsSound (draft : Draft) : Type 0 where

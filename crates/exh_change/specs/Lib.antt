@@ -1,4 +1,4 @@
-pub mod EditList
 pub mod Drafts
+pub mod Leaves
 pub mod Changes
 pub mod ChangeLaws

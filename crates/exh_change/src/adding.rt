@@ -1,4 +1,4 @@
-ghost use Rattle.std.specs.Prelude.{◌≡◌, ◌<◌, ◌≤◌, ◌*◌, List, ◌+◌, ◌-◌, ◌^◌, ℕ, length, slice_index, IfOk, IfErr, MatchResult, OnOk};
+ghost use Rattle.std.specs.Prelude.{◌≡◌, ◌<◌, ◌≤◌, ◌*◌, List, ◌∷◌, ◌+◌, ◌-◌, ◌^◌, ℕ, length, slice_index, IfOk, IfErr, MatchResult, OnOk};
 ghost use Rattle.exh_page.specs.Page.{IsWellFormed};
 ghost use Rattle.exh_prefix.specs.Version.{second_version};
 ghost use Rattle.exh_codec.specs.PageImage.{IsPage};
@@ -8,7 +8,7 @@ ghost use Rattle.exh_cells.specs.declared.places.TheConstants.{GROUP_PAGES};
 ghost use Rattle.exh_cells.specs.PlacedFile.{stamped_block, walk_block as block_of_cells};
 ghost use Rattle.exh_cells.specs.Places.{end_block_of, group_in, page_block_of, walk_block_of};
 ghost use Rattle.exh_edits.specs.BlockEdits.{with_block, with_edits};
-ghost use Rattle.exh_change.specs.EditList.{AreEdits};
+ghost use Rattle.exh_edits.specs.EditsInTurn.{AreEdits};
 ghost use Rattle.exh_cells.specs.declared.fit.TheConstants.{COUNTS_LEN};
 ghost use Rattle.exh_cells.specs.StampedHeader.{IsStampedHeader};
 ghost use Rattle.exh_direct.specs.DirectLaws.{IsOtherFault};
@@ -16,15 +16,14 @@ ghost use Rattle.exh_direct.specs.KnownBlocks.{IsCount};
 ghost use Rattle.exh_edits.specs.PlacedEdits.{counted_more, with_more};
 ghost use Rattle.exh_steps.specs.PlacedSteps.{new_cell};
 ghost use Rattle.exh_walked.specs.WalkBlocks.{pages_in};
-ghost use Rattle.exh_change.specs.Changes.{IsLater};
+ghost use Rattle.exh_change.specs.Changes.{EditsMore, IsLater, blocks_at};
 ghost use Rattle.exh_change.specs.Drafts.{IsOf, IsSound, OfEach, pseudo_in};
 
 use crate::cells::{cells_of, new_cell};
 use crate::draft::Draft;
-use crate::edits::put_block;
-use crate::images::{header_image, page_image, walk_image};
 use exh_cells::{Cell, StampedHeader, group_of, page_block, walk_block};
 use exh_direct::{Blocks, DirectFault};
+use exh_edits::{header_image, page_image, put_block, walk_image};
 use exh_format::push_item;
 use exh_page::Page;
 use exh_prefix::PageNo;
@@ -49,6 +48,7 @@ pub(crate) fn add_page<B: Blocks>(
     ensures later { IsLater draft.old draft.new }
     ensures sound { OnOk result (IsSound draft.new) }
     ensures pages { OnOk result (pages_in draft.new.header ≡ pages_in draft.old.header + 1) }
+    ensures more { OnOk result (EditsMore (0 ∷ blocks_at (pages_in draft.old.header)) draft.old draft.new) }
     ensures legal { IsStampedHeader (counted_more ward draft.old.header) → OfEach (B.known blocks.old) draft.old (λ base file. MatchResult result
         (λ _. IsOf base draft.new (with_more ward page.now (new_cell (slice_index draft.old.header.page_counts ward)) file)) IsOtherFault) }
 {
@@ -101,6 +101,7 @@ fn put_three(
     ensures edits { AreEdits draft.new.edits.first draft.new.edits.items.items draft.new.edits.count }
     ensures count { OnOk result (draft.new.edits.count ≡ end_block_of (place + 1)) }
     ensures valid { OnOk result (IsPage second_version (pseudo_in draft.old) page.now) }
+    ensures more { OnOk result (EditsMore (0 ∷ blocks_at place) draft.old draft.new) }
     ensures made { OnOk result ((base : List ℕ) → length base ≡ BLOCK_LEN * draft.old.edits.first
         → with_edits draft.new.edits.items.items base ≡ with_block (page_block_of place) (block_of_page page.now) (with_block (walk_block_of (group_in place)) (block_of_cells cells.now) (with_block 0 (stamped_block header.now) (with_edits draft.old.edits.items.items base)))) }
 {

@@ -51,6 +51,7 @@ pub(crate) fn answer(
     ensures reply { IfOk result (λ answered. answered.0 ≡ reply_by full pseudokey call.now page.old) }
     ensures page { OnOk result (page.new ≡ with_records (records_after full pseudokey call.now (records_of page.old)) page.old) }
     ensures kept { IfOk result (λ answered. answered.1 ≡ false → (effect_at full pseudokey call.now (records_of page.old)).change ≡ Keep) }
+    ensures changed { IfOk result (λ answered. answered.1 ≡ true → (effect_at full pseudokey call.now (records_of page.old)).change ≡ Keep → ⊥) }
 {
     let lookup = page.look_up(pseudokey, call.key());
     let reply = call.reply(full, &lookup.value);

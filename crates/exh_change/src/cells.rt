@@ -1,4 +1,4 @@
-ghost use Rattle.std.specs.Prelude.{◌≡◌, ◌<◌, ◌≤◌, ◌+◌, ◌-◌, ◌*◌, ◌^◌, ℕ, List, Some, length, min, vec_len, slice_get, slice_index, IfErr, IfOk, MatchResult, OnOk};
+ghost use Rattle.std.specs.Prelude.{◌≡◌, ◌<◌, ◌≤◌, ◌+◌, ◌-◌, ◌*◌, ◌^◌, ℕ, List, [], ◌∷◌, Some, length, min, vec_len, slice_get, slice_index, IfErr, IfOk, MatchResult, OnOk};
 ghost use Rattle.std.specs.List.{AllByRecursion};
 ghost use Rattle.exh_cells.specs.declared.places.TheConstants.{GROUP_PAGES};
 ghost use Rattle.exh_cells.specs.declared.cell.TheConstants.{SLOTS};
@@ -9,15 +9,16 @@ ghost use Rattle.exh_direct.specs.KnownBlocks.{IsCount};
 ghost use Rattle.exh_edits.specs.PlacedEdits.{group_cells, with_cell};
 ghost use Rattle.exh_steps.specs.PlacedSteps.{new_cell, slot_of, with_change};
 ghost use Rattle.exh_walked.specs.WalkBlocks.{pages_in};
+ghost use Rattle.exh_cells.specs.Places.{group_in, walk_block_of};
+ghost use Rattle.exh_change.specs.Changes.{EditsMore};
 ghost use Rattle.exh_change.specs.Drafts.{IsOf, IsSound, OfEach};
 
 use crate::draft::Draft;
-use crate::edits::put_block;
-use crate::images::walk_image;
 use crate::reading::read_edited;
 use exh_cells::{Cell, GROUP_PAGES, SLOTS, Slot, decode_cells, group_of, walk_block};
 use exh_codec::BLOCK_LEN;
 use exh_direct::{Blocks, DirectFault};
+use exh_edits::{put_block, walk_image};
 use exh_walked::page_count;
 use std::alloc::Global;
 
@@ -57,6 +58,7 @@ pub(crate) fn put_cell<B: Blocks>(
     ensures header { draft.new.header ≡ draft.old.header }
     ensures first { draft.new.edits.first ≡ draft.old.edits.first }
     ensures sound { OnOk result (IsSound draft.new) }
+    ensures more { OnOk result (EditsMore (walk_block_of (group_in place) ∷ []) draft.old draft.new) }
     ensures legal { OfEach (B.known blocks.old) draft.old (λ base file. MatchResult result (λ _. IsOf base draft.new (with_cell place cell file)) IsOtherFault) }
 {
     exh_edits::cells_change();

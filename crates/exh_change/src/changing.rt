@@ -1,10 +1,11 @@
-ghost use Rattle.std.specs.Prelude.{◌≡◌, ◌<◌, ◌≤◌, ◌/◌, ◌^◌, ℕ, Bool, true, false, List, [], Some, length, nat_le, IfOk, IfErr, MatchResult, OnOk};
+ghost use Rattle.std.specs.Prelude.{◌≡◌, ◌<◌, ◌≤◌, ◌/◌, ◌^◌, ℕ, Bool, true, false, List, [], ◌∷◌, Some, length, nat_le, slice_get, IfOk, IfErr, MatchResult, OnOk};
 ghost use Rattle.exh_prefix.specs.Version.{second_version};
 ghost use Rattle.exh_keyer.specs.Pseudokey.{any_pseudokey};
 ghost use Rattle.exh_table.specs.Table.{TableMap};
 ghost use Rattle.exh_page.specs.Page.{IsLive, IsWellFormed, records_of, with_records};
 ghost use Rattle.exh_codec.specs.declared.block.TheConstants.{BLOCK_LEN};
 ghost use Rattle.exh_calls.specs.Call.{key_of};
+ghost use Rattle.exh_calls.specs.declared.call.Call.TheVariants.{Del, Get};
 ghost use Rattle.exh_calls.specs.Effect.{sets_new};
 ghost use Rattle.exh_direct.specs.DirectLaws.{IsOtherFault};
 ghost use Rattle.exh_direct.specs.KnownBlocks.{IsCount};
@@ -15,17 +16,15 @@ ghost use Rattle.exh_cells.specs.LegalPlaced.{IsLegalPlaced, IsLegalPlacedFile};
 ghost use Rattle.exh_cells.specs.PlacedFile.{PlacedFile};
 ghost use Rattle.exh_edits.specs.PlacedEdits.{with_header};
 ghost use Rattle.exh_change.specs.ChangeLaws.{IsAnswered, IsAnsweredAt, IsChange, stamped_anew};
-ghost use Rattle.exh_walked.specs.PlacedLaws.{map_in};
-ghost use Rattle.exh_change.specs.Changes.{Becomes, IsHomeOf, IsLater};
+ghost use Rattle.exh_change.specs.Changes.{AreCounted, EditsMore, HasSameLeaves, IsHomeOf, IsLater, MayEditTwo, Settles};
+ghost use Rattle.exh_change.specs.Leaves.{leaf_of, leaves_in, most_edits};
 ghost use Rattle.exh_change.specs.Drafts.{IsOf, IsSound, OfEach, pseudo_in};
-ghost use Rattle.exh_change.specs.EditList.{AreEdits};
+ghost use Rattle.exh_edits.specs.EditsInTurn.{AreEdits};
 
 use crate::answer::{answer, record_count};
 use crate::changed::Changed;
 use crate::draft::Draft;
-use crate::edits::put_block;
 use crate::halves::prefix_of;
-use crate::images::header_image;
 use crate::merging::merge;
 use crate::pages::put_page;
 use crate::reading::read_draft;
@@ -33,6 +32,7 @@ use crate::splitting::make_room;
 use exh_calls::{Call, Reply};
 use exh_cells::StampedHeader;
 use exh_direct::{Blocks, DirectFault};
+use exh_edits::{header_image, put_block};
 use exh_keyer::Keyer;
 use exh_walked::{Home, find_home};
 use std::alloc::{AllocError, Global};
@@ -52,6 +52,7 @@ pub fn change<B: Blocks>(
 ) -> Result<Changed, DirectFault>
     ensures same_bytes { B.known blocks.new ≡ B.known blocks.old }
     ensures edits { (bytes : List ℕ) → B.known blocks.old ≡ Some bytes → IfOk result (λ changed. (count : ℕ) × AreEdits (length bytes / BLOCK_LEN) changed.edits.items count) }
+    ensures few { IfOk result (λ changed. length changed.edits.items ≤ most_edits call.now) }
     ensures legal { (file : PlacedFile) (tables : List TableMap) (bytes : List ℕ) → B.known blocks.old ≡ Some bytes → AreBytes bytes → IsLegalPlacedFile file tables bytes → MatchResult result (IsChange file bytes call.now stamp) IsOtherFault }
 {
     let mut draft = read_draft(alloc, blocks)?;
@@ -86,6 +87,7 @@ fn change_in<B: Blocks>(
     ensures same_bytes { B.known blocks.new ≡ B.known blocks.old }
     ensures first { draft.new.edits.first ≡ draft.old.edits.first }
     ensures sound { OnOk result (IsSound draft.new) }
+    ensures few { draft.old.edits.items.items ≡ [] → IfOk result (λ answered. answered.1 ≡ true → length draft.new.edits.items.items ≤ most_edits call.now) }
     ensures legal { OfEach (B.known blocks.old) draft.old (λ base file. (tables : List TableMap) → draft.old.edits.items.items ≡ [] → AreBytes base → IsLegalPlaced file tables
         → MatchResult result (λ answered. IsAnswered base file call.now stamp draft.new answered.0 answered.1) IsOtherFault) }
 {
@@ -124,8 +126,12 @@ fn settle<B: Blocks>(
     ensures same_bytes { B.known blocks.new ≡ B.known blocks.old }
     ensures later { IsLater draft.old draft.new }
     ensures sound { OnOk result (IsSound draft.new) }
+    // What isn't a del merges nothing.
+    ensures still { OnOk result (((key : List ℕ) → call.now ≡ Del key → ⊥) → draft.new ≡ draft.old) }
+    ensures two { OnOk result (MayEditTwo draft.old draft.new) }
     ensures legal { OfEach (B.known blocks.old) draft.old (λ base file. (tables : List TableMap) (old : PlacedFile) (old_tables : List TableMap) → IsLegalPlaced file tables → AreBytes base → IsLegalPlacedFile old old_tables base
-        → (sets_new call.now ≡ false → old.header ≡ file.header) → MatchResult result (λ _. Becomes base file (map_in file) draft.new) IsOtherFault) }
+        → (sets_new call.now ≡ false → HasSameLeaves old file) → slice_get (leaves_in file) home.now.place ≡ Some (leaf_of home.now.page)
+        → MatchResult result (λ _. (key : List ℕ) → call.now ≡ Del key → Settles base file home.now.place draft.old draft.new) IsOtherFault) }
 {
     match call {
         Call::Del { .. } => merge(alloc, blocks, draft, home.place, prefix_of(&home.page)),
@@ -149,6 +155,10 @@ fn answer_at(
     ensures place { OnOk result (home.new.place ≡ home.old.place) }
     ensures live { OnOk result (IsLive home.new.page) }
     ensures formed { OnOk result (IsWellFormed (pseudo_in draft.old) home.new.page) }
+    ensures leaf { OnOk result (leaf_of home.new.page ≡ leaf_of home.old.page) }
+    ensures counted { OnOk result ((digits : ℕ) → AreCounted draft.old home.old digits → AreCounted draft.new home.new digits) }
+    // A get changes nothing.
+    ensures got { IfOk result (λ answered. (key : List ℕ) → call.now ≡ Get key → answered.1 ≡ true → ⊥) }
     ensures answered { IfOk result (λ answered. (base : List ℕ) (file : PlacedFile) → IsOf base draft.old file → IsAnsweredAt base file call.now home.old draft.new answered.0 answered.1) }
 {
     let full = record_count(&home.page) >= usize::from(draft.header.settings.cap);
@@ -165,6 +175,7 @@ fn put_stamp(draft: &mut Draft, stamp: u64) -> Result<(), AllocError>
     ensures first { draft.new.edits.first ≡ draft.old.edits.first }
     ensures sound { OnOk result (IsSound draft.new) }
     ensures is { OnOk result ((base : List ℕ) (file : PlacedFile) → IsOf base draft.old file → IsOf base draft.new (with_header (stamped_anew stamp file.header) file)) }
+    ensures more { OnOk result (EditsMore (0 ∷ []) draft.old draft.new) }
 {
     exh_edits::headers_change();
     let header = StampedHeader {

@@ -1,5 +1,5 @@
-use crate::edits::Edits;
 use exh_cells::StampedHeader;
+use exh_edits::Edits;
 
 /// A page file that is being changed.
 #[derive(Drop)]

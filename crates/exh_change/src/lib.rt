@@ -11,12 +11,9 @@ mod cells;
 mod changed;
 mod changing;
 mod draft;
-mod edits;
 #[cfg(test)]
 mod examples;
 mod halves;
-mod header_block;
-mod images;
 mod merging;
 mod pages;
 mod reading;

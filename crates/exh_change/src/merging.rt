@@ -1,4 +1,4 @@
-ghost use Rattle.std.specs.Prelude.{◌≡◌, ◌<◌, ◌≤◌, ◌+◌, ◌-◌, ◌^◌, ◌↔◌, ℕ, Bool, true, false, List, [], ◌∷◌, ◌++◌, Option, length, IsTrue, IfOk, IfErr, MatchResult, OnOk};
+ghost use Rattle.std.specs.Prelude.{◌≡◌, ◌<◌, ◌≤◌, ◌+◌, ◌-◌, ◌/◌, ◌^◌, ◌↔◌, ℕ, Bool, true, false, List, [], ◌∷◌, ◌++◌, Option, Some, length, slice_get, IsTrue, IfOk, IfErr, MatchResult, OnOk};
 ghost use Rattle.exh_prefix.specs.declared.prefix.TheConstants.{LIMIT};
 ghost use Rattle.exh_page.specs.declared.page.Page.TheVariants.{Live};
 ghost use Rattle.exh_page.specs.declared.page.TheConstants.{CAP_LIMIT};
@@ -16,8 +16,9 @@ ghost use Rattle.exh_cells.specs.LegalPlaced.{IsLegalPlaced, IsLegalPlacedFile};
 ghost use Rattle.exh_cells.specs.PlacedFile.{PlacedFile};
 ghost use Rattle.exh_page.specs.Halves.{sent_to, union};
 ghost use Rattle.exh_edits.specs.PlacedEdits.{with_page};
-ghost use Rattle.exh_walked.specs.PlacedLaws.{map_in};
-ghost use Rattle.exh_change.specs.Changes.{Becomes, IsLater, IsOfPrefix};
+ghost use Rattle.exh_cells.specs.Places.{page_block_of};
+ghost use Rattle.exh_change.specs.Changes.{EditsMore, HasSameLeaves, IsLater, IsOfPrefix, MayEditTwo, Settles, SettlesLeft};
+ghost use Rattle.exh_change.specs.Leaves.{leaves_in};
 ghost use Rattle.exh_change.specs.Drafts.{IsOf, IsSound, OfEach, pseudo_in};
 
 use crate::answer::record_count;
@@ -46,9 +47,11 @@ pub(crate) fn merge<B: Blocks>(
     ensures same_bytes { B.known blocks.new ≡ B.known blocks.old }
     ensures later { IsLater draft.old draft.new }
     ensures sound { OnOk result (IsSound draft.new) }
-    ensures legal { OfEach (B.known blocks.old) draft.old (λ base file. (tables : List TableMap) (old : PlacedFile) (old_tables : List TableMap) → IsLegalPlaced file tables → AreBytes base → IsLegalPlacedFile old old_tables base → old.header ≡ file.header
-        → MatchResult result (λ _. Becomes base file (map_in file) draft.new) IsOtherFault) }
+    ensures two { OnOk result (MayEditTwo draft.old draft.new) }
+    ensures legal { OfEach (B.known blocks.old) draft.old (λ base file. (tables : List TableMap) (old : PlacedFile) (old_tables : List TableMap) → IsLegalPlaced file tables → AreBytes base → IsLegalPlacedFile old old_tables base → HasSameLeaves old file
+        → slice_get (leaves_in file) place ≡ Some (Some prefix) → MatchResult result (λ _. Settles base file place draft.old draft.new) IsOtherFault) }
 {
+    exh_steps::pages_stand_apart();
     if prefix.len() <= draft.header.settings.ward_bits {
         return Ok(());
     }
@@ -83,9 +86,11 @@ fn merge_left<B: Blocks>(
     ensures same_bytes { B.known blocks.new ≡ B.known blocks.old }
     ensures later { IsLater draft.old draft.new }
     ensures sound { OnOk result (IsSound draft.new) }
-    ensures legal { OfEach (B.known blocks.old) draft.old (λ base file. (tables : List TableMap) → IsLegalPlaced file tables → MatchResult result (λ _. Becomes base file (map_in file) draft.new) IsOtherFault) }
+    ensures two { OnOk result (MayEditTwo draft.old draft.new) }
+    ensures legal { OfEach (B.known blocks.old) draft.old (λ base file. (tables : List TableMap) → IsLegalPlaced file tables → MatchResult result (λ _. SettlesLeft base file parent place draft.old draft.new) IsOtherFault) }
 {
     exh_steps::merges_keep_legal();
+    exh_steps::pages_stand_apart();
     let page = page_at(alloc, blocks, draft, place)?;
     if !is_child(&page, parent, false) {
         return Ok(());
@@ -116,7 +121,8 @@ fn may_unite(cap: u8, number: u32, page: &Page, right: &Page, parent: Prefix) ->
     requires short { length parent < LIMIT }
     requires few { length (records_of page.now) ≤ CAP_LIMIT }
     requires right_few { length (records_of right.now) ≤ CAP_LIMIT }
-    ensures { result ≡ true → (number < 2 ^ 32 - 1) × IsOfPrefix (parent ++ true ∷ []) right.now × (length (records_of page.now) + length (records_of right.now) ≤ cap) }
+    ensures may { result ≡ true → (number < 2 ^ 32 - 1) × IsOfPrefix (parent ++ true ∷ []) right.now × (length (records_of page.now) + length (records_of right.now) ≤ cap / 2) }
+    ensures may_not { result ≡ false → number < 2 ^ 32 - 1 → IsOfPrefix (parent ++ true ∷ []) right.now → length (records_of page.now) + length (records_of right.now) ≤ cap / 2 → ⊥ }
 {
     number != u32::MAX
         && is_child(right, parent, true)
@@ -145,6 +151,7 @@ fn unite(
     ensures later { IsLater draft.old draft.new }
     ensures sound { OnOk result (IsSound draft.new) }
     ensures is { OnOk result ((base : List ℕ) (file : PlacedFile) → IsOf base draft.old file → IsOf base draft.new (with_page right_place (sent_to number right.now) (with_page place (union parent page.now right.now) file))) }
+    ensures more { OnOk result (EditsMore (page_block_of place ∷ page_block_of right_place ∷ []) draft.old draft.new) }
 {
     exh_legal::buddies_unite();
     let union = page.union(parent, right)?;

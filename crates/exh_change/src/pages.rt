@@ -1,4 +1,4 @@
-ghost use Rattle.std.specs.Prelude.{◌≡◌, ◌<◌, ◌+◌, ◌^◌, ℕ, List, Some, length, max, slice_get, IfErr, IfOk, MatchResult, OnOk};
+ghost use Rattle.std.specs.Prelude.{◌≡◌, ◌<◌, ◌+◌, ◌^◌, ℕ, List, [], ◌∷◌, Some, length, max, slice_get, IfErr, IfOk, MatchResult, OnOk};
 ghost use Rattle.exh_prefix.specs.Version.{second_version};
 ghost use Rattle.exh_page.specs.declared.page.Page.{Page as PageValue};
 ghost use Rattle.exh_page.specs.Page.{IsWellFormed};
@@ -8,15 +8,16 @@ ghost use Rattle.exh_direct.specs.DirectLaws.{IsOtherFault};
 ghost use Rattle.exh_direct.specs.KnownBlocks.{IsCount};
 ghost use Rattle.exh_edits.specs.PlacedEdits.{with_page};
 ghost use Rattle.exh_walked.specs.WalkBlocks.{pages_in};
+ghost use Rattle.exh_cells.specs.Places.{page_block_of};
+ghost use Rattle.exh_change.specs.Changes.{EditsMore};
 ghost use Rattle.exh_change.specs.Drafts.{IsOf, IsSound, OfEach, pseudo_in};
 
 use crate::draft::Draft;
-use crate::edits::put_block;
-use crate::images::page_image;
 use crate::reading::read_edited;
 use exh_cells::page_block;
 use exh_codec::{BLOCK_LEN, decode_page_of};
 use exh_direct::{Blocks, DirectFault};
+use exh_edits::{page_image, put_block};
 use exh_page::Page;
 use exh_prefix::Version;
 use std::alloc::{AllocError, Global};
@@ -56,6 +57,7 @@ pub(crate) fn put_page(draft: &mut Draft, place: u32, page: &Page) -> Result<(),
     ensures first { draft.new.edits.first ≡ draft.old.edits.first }
     ensures sound { OnOk result (IsSound draft.new) }
     ensures is { OnOk result ((base : List ℕ) (file : PlacedFile) → IsOf base draft.old file → IsOf base draft.new (with_page place page.now file)) }
+    ensures more { OnOk result (EditsMore (page_block_of place ∷ []) draft.old draft.new) }
 {
     exh_edits::pages_change();
     let block = page_image(draft.header.settings.keyer, page);

@@ -8,11 +8,10 @@ ghost use Rattle.exh_edits.specs.EditLaws.{StandsAt};
 ghost use Rattle.exh_change.specs.Drafts.{IsOf, IsSound, OverEach};
 
 use crate::draft::Draft;
-use crate::edits::{block_in, no_edits};
 use exh_cells::{StampedHeader, end_block};
 use exh_codec::BLOCK_LEN;
 use exh_direct::{Blocks, DirectFault, read_block};
-use exh_edits::blocks_stand;
+use exh_edits::{block_in, blocks_stand, no_edits};
 use exh_format::FileFault;
 use exh_walked::page_count;
 use std::alloc::Global;

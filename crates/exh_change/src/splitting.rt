@@ -10,7 +10,7 @@ ghost use Rattle.exh_cells.specs.LegalPlaced.{IsLegalPlaced};
 ghost use Rattle.exh_cells.specs.WalkImage.{IsCell};
 ghost use Rattle.exh_direct.specs.DirectLaws.{IsOtherFault};
 ghost use Rattle.exh_direct.specs.KnownBlocks.{IsCount};
-ghost use Rattle.exh_change.specs.Changes.{HasRoom, IsAtHome, IsHomeOf, IsLater};
+ghost use Rattle.exh_change.specs.Changes.{HasGrown, HasRoom, IsAtHome, IsHalved, IsHomeOf, IsLater};
 ghost use Rattle.exh_change.specs.Drafts.{IsOf, IsSound, OfEach, pseudo_in};
 ghost use Rattle.exh_ward.specs.PageAnswer.{OverflowsPage};
 ghost use Rattle.exh_calls.specs.Effect.{sets_new};
@@ -51,7 +51,8 @@ pub(crate) fn make_room<B: Blocks>(
     ensures home { IfOk result (IsHomeOf draft.new pseudokey) }
     ensures fits { IfOk result (λ home. OverflowsPage draft.old.header.settings.cap pseudokey home.page call.now → ⊥) }
     // A call that sets no new key splits nothing.
-    ensures still { OnOk result (sets_new call.now ≡ false → draft.new.header ≡ draft.old.header) }
+    ensures still { IfOk result (λ next. sets_new call.now ≡ false → (draft.new ≡ draft.old) × (next ≡ home)) }
+    ensures grown { IfOk result (λ next. draft.old.edits.items.items ≡ [] → HasGrown home next draft.new) }
     ensures legal { OfEach (B.known blocks.old) draft.old (λ base file. (tables : List TableMap) → IsLegalPlaced file tables → IsHomeIn file pseudokey home → MatchResult result (HasRoom base file draft.new pseudokey) IsOtherFault) }
 {
     let mut home = home;
@@ -77,6 +78,7 @@ fn split<B: Blocks>(
     ensures later { IsLater draft.old draft.new }
     ensures sound { OnOk result (IsSound draft.new) }
     ensures home { IfOk result (IsHomeOf draft.new pseudokey) }
+    ensures halved { IfOk result (IsHalved draft.old draft.new home.now.place) }
     ensures longer { IfOk result (λ next. (old new : List Bool) (link more_link : Option ℕ) (records more : List Record) → home.now.page ≡ Live old link records → next.page ≡ Live new more_link more → length new ≡ length old + 1) }
     ensures legal { OfEach (B.known blocks.old) draft.old (λ base file. (tables : List TableMap) → IsLegalPlaced file tables → IsHomeIn file pseudokey home.now → draft.old.header.settings.cap ≤ length (records_of home.now.page)
         → MatchResult result (HasRoom base file draft.new pseudokey) IsOtherFault) }
@@ -119,6 +121,7 @@ fn split_fresh<B: Blocks>(
     ensures sound { OnOk result (IsSound draft.new) }
     ensures home { IfOk result (IsHomeOf draft.new pseudokey) }
     ensures longer { IfOk result (λ next. (new : List Bool) (link : Option ℕ) (records : List Record) → next.page ≡ Live new link records → length new ≡ length prefix + 1) }
+    ensures halved { IfOk result (IsHalved draft.old draft.new home.now.place) }
     ensures legal { OfEach (B.known blocks.old) draft.old (λ base file. (link : Option ℕ) (records : List Record) → home.now.page ≡ Live prefix link records → slice_get file.pages home.now.place ≡ Some home.now.page
         → slice_get file.cells home.now.place ≡ Some cell.now → count_in file prefix < 2 ^ (LIMIT - file.header.settings.ward_bits)
         → MatchResult result (λ next. IsAtHome base draft.new pseudokey next (split_fresh home.now.place prefix link records cell.now file)) IsOtherFault) }
@@ -157,6 +160,7 @@ fn split_revived<B: Blocks>(
     ensures sound { OnOk result (IsSound draft.new) }
     ensures home { IfOk result (IsHomeOf draft.new pseudokey) }
     ensures longer { IfOk result (λ next. (new : List Bool) (link : Option ℕ) (records : List Record) → next.page ≡ Live new link records → length new ≡ length prefix + 1) }
+    ensures halved { IfOk result (IsHalved draft.old draft.new home.now.place) }
     ensures legal { OfEach (B.known blocks.old) draft.old (λ base file. (link : Option ℕ) (records : List Record) (target : ℕ) (right_cell : CellValue) → home.now.page ≡ Live prefix link records → slice_get file.pages home.now.place ≡ Some home.now.page
         → slice_get file.cells home.now.place ≡ Some cell.now → slice_get file.pages place ≡ Some (Forward (low_of (prefix ++ true ∷ [])) target) → slice_get file.cells place ≡ Some right_cell → right_cell.number < 2 ^ 32 - 1
         → MatchResult result (λ next. IsAtHome base draft.new pseudokey next (split_revived home.now.place prefix link records cell.now place right_cell.number file)) IsOtherFault) }

@@ -2,6 +2,8 @@
 pub mod EditedBlocks
 -- of edits one after the other
 pub mod EditLists
+-- of put_block and block_in
+pub mod EditsInTurn
 -- of files by their blocks
 pub mod Parts
 pub mod MadeBlocks

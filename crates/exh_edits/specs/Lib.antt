@@ -4,3 +4,5 @@ pub mod EditLaws
 pub mod EditsKeepOthers
 pub mod EditLists
 pub mod Comparison
+pub mod EditsInTurn
+pub mod EditLemmas

@@ -4,6 +4,8 @@
 pub use block_edit::BlockEdit;
 pub use differing::Differing;
 pub use differing_fault::DifferingFault;
+pub use edits::{Edits, block_in, no_edits, put_block};
+pub use images::{header_image, page_image, walk_image};
 pub use laws::{
     blocks_stand, cells_change, edit_lists_stand, edited_blocks_stand, edits_commute,
     headers_change, pages_are_added, pages_change,
@@ -14,4 +16,7 @@ mod differing;
 #[cfg(test)]
 mod differing_examples;
 mod differing_fault;
+mod edits;
+mod header_block;
+mod images;
 mod laws;

@@ -103,7 +103,7 @@ module _ (file : PlacedFile) (tables : List TableMap) (valid : IsPlaced file) (l
   table_there ward less = slice_get-get_or tables ward fin.empty (omega (arith, less, legal.tables_are.count))
 
   -- no two pages share a low bound, as none of one ward do
-  apart : AreApart lows
+  pub apart : AreApart lows
   apart one other low is too =
       let ward = ward_of own_bits low in
       let page = page_of_low file.pages one low is in

@@ -14,3 +14,4 @@ mod RecordCount
 mod HomeReplies
 mod WardParts
 mod HomeAnswers
+mod Apart

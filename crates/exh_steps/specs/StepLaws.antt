@@ -8,6 +8,7 @@ use Rattle.exh_page.specs.declared.page.Page.{Page}
 use Rattle.exh_page.specs.declared.page.Page.TheVariants.{Forward, Live}
 use Rattle.exh_page.specs.declared.record.Record.{Record}
 use Rattle.exh_page.specs.Page.{low_bound}
+use Rattle.exh_legal.specs.Pages.{IsHome}
 use Rattle.exh_calls.specs.MapMachine.{map_after, reply_of}
 use Rattle.exh_calls.specs.declared.call.Call.{Call}
 use Rattle.exh_cells.specs.declared.cell.Cell.{Cell}
@@ -17,6 +18,14 @@ use Rattle.exh_cells.specs.PlacedFile.{IsPlaced, PlacedFile}
 use Rattle.exh_edits.specs.PlacedEdits.{with_header, with_page}
 use Rattle.exh_steps.specs.PlacedSteps.{IsAnswering, IsFullIn, IsLiveIn, IsStep, count_in, merged, page_after, reply_at, slot_of, split_fresh, split_revived}
 use Rattle.exh_walked.specs.PlacedLaws.{map_in}
+
+-- no two pages have one low bound, and no pseudokey has two homes
+pub record StandApart (file : PlacedFile) : Type 0 where
+  pub lows : (one other : ℕ) (page twin : Page) → slice_get file.pages one ≡ Some page → slice_get file.pages other ≡ Some twin → low_bound page ≡ low_bound twin → one ≡ other
+  pub homes : (pseudokey one other : ℕ) (page twin : Page) → slice_get file.pages one ≡ Some page → slice_get file.pages other ≡ Some twin → IsHome page pseudokey → IsHome twin pseudokey → one ≡ other
+
+abbrev pub PagesStandApart : Type 0
+PagesStandApart = (file : PlacedFile) (tables : List TableMap) → IsPlaced file → IsLegalPlaced file tables → StandApart file
 
 -- other stamps change nothing
 abbrev pub StampsKeepLegal : Type 0

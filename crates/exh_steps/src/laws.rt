@@ -1,11 +1,16 @@
 //! What holds of legal page files of version 3 that change, for the proofs of callers. Each function changes nothing.
 
-ghost use Rattle.exh_steps.specs.StepLaws.{AnswersKeepLegal, MergesKeepLegal, SplitsKeepLegal, StampsKeepLegal};
+ghost use Rattle.exh_steps.specs.StepLaws.{AnswersKeepLegal, MergesKeepLegal, PagesStandApart, SplitsKeepLegal, StampsKeepLegal};
 
 use exh_cells::{matched_tables_are_told, slots_are_entries};
 use exh_legal::{
     fitting_tables_begin_wards, live_left_children_merge, live_pages_split, pages_are_few,
 };
+
+/// No two pages of a legal file have one low bound, and no pseudokey has two homes. It takes no memory.
+pub fn pages_stand_apart()
+    ensures { PagesStandApart }
+{}
 
 /// With other stamps a file is legal still, and has the same map. It takes no memory.
 pub fn stamps_keep_legal()

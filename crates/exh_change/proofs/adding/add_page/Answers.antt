@@ -13,6 +13,7 @@ use Rattle.exh_format.specs.PageFile.{page_block}
 use Rattle.exh_edits.specs.BlockEdits.{with_block, with_edits}
 use Rattle.exh_edits.specs.PlacedEdits.{counted_more, group_cells, with_more}
 use Rattle.exh_steps.specs.PlacedSteps.{new_cell}
+use Rattle.exh_change.specs.Changes.{EditsMore, blocks_at}
 use Rattle.exh_change.proofs.OfFile.{group_push}
 use Rattle.exh_change.proofs.adding.add_page.Goals as goal
 
@@ -44,3 +45,6 @@ returns-clause-legal g c valid base file knows is =
       header = header;
       is = subst (IsPlacedFile (with_more ward page cell file)) (sym bytes) (c.pages_are_added.ensures file old ward page cell is.is (omega (arith, c.requires.ward, is.is.valid.header.plain.counts)) counted fits cell_valid);
     }
+
+pub returns-clause-more : goal.returns-clause-more
+returns-clause-more g c = subst (λ (place : ℕ). EditsMore (0 ∷ blocks_at place) c.args.draft.now c.put_three.new.draft) c.page_count-place.ensures.count c.in_ok-put_three.ensures.more

@@ -7,6 +7,7 @@ use Rattle.exh_cells.specs.Places.{walk_block_of}
 use Rattle.exh_edits.specs.BlockEdits.{with_block, with_edits}
 use Rattle.exh_edits.specs.PlacedEdits.{group_cells, with_cell}
 use Rattle.exh_change.proofs.Counts.{few_pages}
+use Rattle.exh_change.proofs.EditPlaces.{at_place}
 use Rattle.exh_change.proofs.OfFile.{group_set}
 use Rattle.exh_change.proofs.cells.put_cell.Goals as goal
 
@@ -34,3 +35,7 @@ returns-clause-legal g c base file knows is =
       header = is.header;
       is = subst (IsPlacedFile (with_cell place c.args.cell file)) (sym bytes) (c.cells_change.ensures file old place c.args.cell is.is within c.requires.valid);
     }
+
+pub returns-clause-more : goal.returns-clause-more
+returns-clause-more g c =
+    at_place c.args.draft.now.edits.items.items c.put_block.new.edits.items.items c.walk_block.result (walk_block_of (c.args.place / 24)) (c.walk_block.ensures ∙ ap walk_block_of c.group_of-group.ensures) c.in_ok-put_block.ensures.more

@@ -9,7 +9,11 @@ use Rattle.exh_edits.specs.PlacedEdits.{with_page}
 use Rattle.exh_steps.specs.PlacedSteps.{is_full, page_after}
 use Rattle.exh_ward.specs.PageAnswer.{records_after, reply_by}
 use Rattle.exh_change.specs.declared.draft.Draft.{Draft}
-use Rattle.exh_change.proofs.Answered.{kept_page}
+use Rattle.exh_change.specs.Changes.{AreCounted}
+use Rattle.exh_change.specs.Leaves.{leaf_of}
+use Rattle.exh_change.proofs.Answered.{get_keeps, kept_page}
+use Rattle.exh_change.proofs.EditPlaces.{count_page, count_same}
+use Rattle.exh_change.proofs.LeafLemmas.{same_leaf}
 use Rattle.exh_change.specs.Drafts.{IsOf, pseudo_in}
 use Rattle.exh_change.proofs.Formed.{answered_formed_at, room_below}
 use Rattle.exh_change.proofs.changing.answer_at.Goals as goal
@@ -48,3 +52,18 @@ returns-clause-answered c base file is =
         | else-changes w ↦ absurd (false≢true (sym w.if-changes.false ∙ yes))
       ];
     }
+
+pub returns-clause-leaf : goal.returns-clause-leaf
+returns-clause-leaf c = ap leaf_of c.in_ok-reply.ensures.page ∙ same_leaf _ c.args.home.now.page
+
+pub returns-clause-got : goal.returns-clause-got
+returns-clause-got c key get changes = c.in_ok-reply.ensures.changed changes (get_keeps c.args.call.now key get (leb c.from.result c.record_count.result) c.args.pseudokey (records_of c.args.home.now.page))
+
+pub returns-clause-counted : goal.returns-clause-counted
+returns-clause-counted c digits counted =
+    let home = c.args.home.now in
+    let page = c.answer.new.page in
+    elim c.if-changes.branch [
+      | then-changes+in_ok-put_page w ↦ subst (λ (draft : Draft). AreCounted draft (record { place = home.place; page = page }) digits) (sym w.draft-is) (count_page c.args.draft.now w.put_page.new.draft home page digits w.in_ok-put_page.ensures.more counted)
+      | else-changes w ↦ subst (λ (draft : Draft). AreCounted draft (record { place = home.place; page = page }) digits) (sym w.draft-is) (count_same c.args.draft.now home page digits counted)
+    ]

@@ -1,7 +1,10 @@
-use Rattle.std.proofs.Common.{ℕ, List, sym, subst, arith}
+use Rattle.std.proofs.Common.{ℕ, List, [], ◌∷◌, sym, subst, arith}
 use Rattle.exh_keyer.specs.PseudokeyFits.{any_pseudokey-lt}
 use Rattle.exh_page.specs.Page.{IsWellFormed}
 use Rattle.exh_change.specs.Drafts.{IsOf, pseudo_in}
+use Rattle.exh_cells.specs.Places.{page_block_of}
+use Rattle.exh_change.specs.Changes.{EditsMore}
+use Rattle.exh_change.proofs.EditPlaces.{two_more}
 use Rattle.exh_change.proofs.Formed.{sent_formed, union_formed, union_records}
 use Rattle.exh_change.proofs.OfFile.{on_ok}
 use Rattle.exh_page.specs.declared.page.Page.{Page}
@@ -33,3 +36,9 @@ returns-clause-is c =
     (subst (λ (page : Page). IsOf base c.put_page-2.new.draft (with_page c.args.right_place c.sent_to.result (with_page c.args.place page file))) c.in_ok-union.ensures
     (put base (with_page c.args.place c.in_ok-union.union file) (c.in_ok-put_page.ensures.is base file is))))
     c.put_page-2.ensures.is
+
+pub returns-clause-more : goal.returns-clause-more
+returns-clause-more c =
+    on_ok c.put_page-2.result _ _
+    (λ (more : EditsMore (page_block_of c.args.right_place ∷ []) c.put_page.new.draft c.put_page-2.new.draft). two_more (page_block_of c.args.place) (page_block_of c.args.right_place) c.args.draft.now.edits.items.items c.put_page.new.draft.edits.items.items c.put_page-2.new.draft.edits.items.items c.in_ok-put_page.ensures.more more)
+    c.put_page-2.ensures.more

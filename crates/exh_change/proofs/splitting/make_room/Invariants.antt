@@ -1,5 +1,6 @@
 use Rattle.std.proofs.Common.{◌-◌, length}
-use Rattle.exh_change.proofs.Rooms.{IsOnWay, prefix_in}
+use Rattle.exh_change.specs.Changes.{prefix_in}
+use Rattle.exh_change.proofs.Rooms.{IsOnWay}
 use Rattle.exh_change.proofs.splitting.make_room.Given as goal
 
 abbrev pub invariant-loop-alloc : goal.invariant-loop-alloc

@@ -1,4 +1,4 @@
-use Rattle.std.proofs.Common.{◌≡◌, ℕ, ◌-◌, ◌^◌, ◌<◌, Bool, List, length, slice_index, sym, ap, ◌∙◌, subst, arith}
+use Rattle.std.proofs.Common.{◌≡◌, ℕ, ◌-◌, ◌^◌, ◌<◌, Bool, List, ◌∷◌, length, slice_index, sym, ap, ◌∙◌, subst, arith}
 use Rattle.std.specs.List.{sum}
 use Rattle.exh_keyer.specs.declared.any_keyer.AnyKeyer.{AnyKeyer}
 use Rattle.exh_keyer.specs.Pseudokey.{any_pseudokey}
@@ -14,8 +14,10 @@ use Rattle.exh_cells.specs.StampedHeader.{IsStampedHeader}
 use Rattle.exh_edits.specs.PlacedEdits.{counted_more, with_cell, with_more}
 use Rattle.exh_steps.specs.PlacedSteps.{count_in, new_cell, ward_in, with_change}
 use Rattle.exh_change.specs.declared.draft.Draft.{Draft}
+use Rattle.exh_change.specs.Changes.{EditsMore, blocks_at}
 use Rattle.exh_change.specs.Drafts.{IsOf, pseudo_in}
 use Rattle.exh_change.proofs.Counts.{counted_valid, few_bits}
+use Rattle.exh_change.proofs.EditPlaces.{fresh_more, one_of}
 use Rattle.exh_change.proofs.Homes.{chosen, chosen_at, fresh_is, home_fresh, home_then}
 use Rattle.exh_change.proofs.OfFile.{other_fault}
 use Rattle.exh_change.proofs.splitting.split_fresh.Goals as goal
@@ -98,3 +100,11 @@ returns-clause-legal g c base file knows is link records page_is there cell_is r
       own = home_fresh file c.args.pseudokey place prefix link records cell page c.home_of.result there
           (chosen_at prefix link records c.args.pseudokey place c.page_count-place.result (length file.pages) number (count_in file prefix) page halves.left halves.right c.home_of.result page_is c.in_ok-halves.ensures.left c.in_ok-halves.ensures.right number_is right_place picked);
     }
+
+pub returns-clause-halved : goal.returns-clause-halved
+returns-clause-halved g c = record {
+  right = c.page_count-place.result;
+  which = one_of _ _ c.args.home.now.place c.page_count-place.result c.in_ok-halves.halves.left c.in_ok-halves.halves.right c.home_of.result c.home_of.ensures;
+  more = fresh_more c.args.home.now.place c.page_count-place.result c.args.draft.now c.add_page.new.draft c.put_cell.new.draft c.put_page.new.draft
+      (subst (λ (place : ℕ). EditsMore (0 ∷ blocks_at place) c.args.draft.now c.add_page.new.draft) (sym c.page_count-place.ensures.count) c.in_ok-add_page.ensures.more) c.in_ok-put_cell.ensures.more c.in_ok-put_page.ensures.more;
+}

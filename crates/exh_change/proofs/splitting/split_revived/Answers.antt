@@ -13,6 +13,7 @@ use Rattle.exh_cells.specs.declared.stamped_header.StampedHeader.{StampedHeader}
 use Rattle.exh_edits.specs.PlacedEdits.{with_cell, with_page}
 use Rattle.exh_steps.specs.PlacedSteps.{with_change}
 use Rattle.exh_change.specs.Drafts.{IsOf, pseudo_in}
+use Rattle.exh_change.proofs.EditPlaces.{one_of, revived_more}
 use Rattle.exh_change.proofs.Homes.{chosen, chosen_at, home_revived, home_then, revived_is}
 use Rattle.exh_change.proofs.splitting.split_revived.Goals as goal
 
@@ -61,3 +62,10 @@ returns-clause-legal g c base file knows is link records target right_cell page_
       own = home_revived file c.args.pseudokey place c.args.place right_cell.number prefix link records cell (low_of (prefix ++ true ∷ [])) target c.home_of.result (there ∙ ap (λ (page : Page). Some page) page_is) right_there
           (chosen_at prefix link records c.args.pseudokey place c.args.place c.args.place number right_cell.number page halves.left halves.right c.home_of.result page_is c.in_ok-halves.ensures.left c.in_ok-halves.ensures.right number_is refl picked);
     }
+
+pub returns-clause-halved : goal.returns-clause-halved
+returns-clause-halved g c = record {
+  right = c.args.place;
+  which = one_of _ _ c.args.home.now.place c.args.place c.in_ok-halves.halves.left c.in_ok-halves.halves.right c.home_of.result c.home_of.ensures;
+  more = revived_more c.args.home.now.place c.args.place c.args.draft.now c.put_cell.new.draft c.put_page.new.draft c.put_page-2.new.draft c.in_ok-put_cell.ensures.more c.in_ok-put_page.ensures.more c.in_ok-put_page-2.ensures.more;
+}

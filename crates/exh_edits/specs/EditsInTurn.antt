@@ -1,6 +1,6 @@
 -- Edits of a file's blocks: one after the other, none of a place twice.
-use Rattle.std.specs.Prelude.{◌≡◌, ℕ, ◌+◌, ◌*◌, ◌<◌, ◌≤◌, nat_eq, List, [], ◌∷◌, Some, length, map, max, slice_get}
-use Rattle.std.specs.List.{AllByRecursion, IsDistinct}
+use Rattle.std.specs.Prelude.{◌≡◌, ℕ, ◌+◌, ◌*◌, ◌<◌, ◌≤◌, nat_eq, true, List, [], ◌∷◌, Some, length, map, max, slice_get}
+use Rattle.std.specs.List.{AllByRecursion, IsDistinct, list_any}
 use Rattle.exh_codec.specs.declared.block.TheConstants.{BLOCK_LEN}
 use Rattle.exh_format.specs.FileTests.{block_at}
 use Rattle.exh_edits.specs.declared.block_edit.BlockEdit.{BlockEdit}
@@ -24,6 +24,16 @@ pub record AreEdits (first : ℕ) (edits : List BlockEdit) (count : ℕ) : Type 
 -- the edit of a place stands at an index
 abbrev pub HasPlace : List BlockEdit → ℕ → ℕ → Type 0
 HasPlace edits place index = (edit : BlockEdit) × (slice_get edits index ≡ Some edit) × (edit.place ≡ place)
+
+-- ---- of places
+
+-- each of the numbers is one of these
+abbrev pub AreAmong : List ℕ → List ℕ → Type 0
+AreAmong these numbers = AllByRecursion (λ number. list_any (nat_eq number) these ≡ true) numbers
+
+-- the edits of after are of the places of those before, or of these: of which all of them are, those of after are
+abbrev pub AreMoreAt : List ℕ → List BlockEdit → List BlockEdit → Type 0
+AreMoreAt more old new = (places : List ℕ) → AreAmong places more → AreAmong places (places_of old) → AreAmong places (places_of new)
 
 -- ---- of the bytes of so many blocks
 

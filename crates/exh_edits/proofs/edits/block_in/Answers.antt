@@ -2,9 +2,9 @@ use Rattle.std.proofs.Common.{List, length, refl, subst, nat_eq, false, ◌≡�
 use Rattle.std.proofs.lemmas.Option.{slice_get_read, slice_get_within}
 use Rattle.std.specs.List.{list_any}
 use Rattle.exh_edits.specs.declared.block_edit.BlockEdit.{BlockEdit}
-use Rattle.exh_change.specs.EditList.{HasPlace, StandsOver, places_of}
-use Rattle.exh_change.proofs.EditLists.{stands_over, stood_before}
-use Rattle.exh_change.proofs.edits.block_in.Goals as goal
+use Rattle.exh_edits.specs.EditsInTurn.{HasPlace, StandsOver, places_of}
+use Rattle.exh_edits.proofs.EditsInTurn.{stands_over, stood_before}
+use Rattle.exh_edits.proofs.edits.block_in.Goals as goal
 
 pub returns-in-Some-clause-some : goal.returns-in-Some-clause-some
 returns-in-Some-clause-some c =
@@ -14,10 +14,10 @@ returns-in-Some-clause-some c =
     let there = slice_get_read edits.items.items (length edits.items.items) index c.index.result.now refl (slice_get_within edits.items.items index has.0 has.1) c.index.ensures in
     let same : has.0 ≡ c.index.result.now = cc in
     subst (λ (edit : BlockEdit). StandsOver edits.first edits.items.items c.args.place edit.block) same
-    (stands_over c.edited_blocks_stand.ensures.block c.edited_blocks_stand.ensures.others c.edited_blocks_stand.ensures.length edits.items.items edits.first edits.count c.args.place has.0 index c.requires has.1 has.2)
+    (stands_over edits.items.items edits.first edits.count c.requires c.args.place has.0 index has.1 has.2)
 
 pub returns-in-None-clause-none : goal.returns-in-None-clause-none
 returns-in-None-clause-none c =
     let edits = c.args.edits.now in
-    stood_before c.edited_blocks_stand.ensures.block c.edited_blocks_stand.ensures.others c.edited_blocks_stand.ensures.length edits.items.items edits.first edits.count c.args.place c.requires
+    stood_before edits.items.items edits.first edits.count c.requires c.args.place
     (subst (λ (items : List BlockEdit). list_any (nat_eq c.args.place) (places_of items) ≡ false) c.deref.ensures.value c.in-None.ensures.none)

@@ -4,7 +4,7 @@ use Rattle.exh_keyer.specs.Pseudokey.{any_pseudokey}
 use Rattle.exh_page.specs.declared.page.Page.{Page}
 use Rattle.exh_page.specs.declared.page.Page.TheVariants.{Forward, Live}
 use Rattle.exh_codec.specs.PageImage.{IsHeld, IsInRange, IsPage}
-use Rattle.exh_change.proofs.images.page_image.Goals as goal
+use Rattle.exh_edits.proofs.images.page_image.Goals as goal
 
 held : (page : Page) → IsHeld page → IsInRange second_version page
 held (Live prefix link records) is = is

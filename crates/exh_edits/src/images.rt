@@ -1,4 +1,4 @@
-//! The blocks of what a file has.
+//! The blocks that stand for what a file has.
 ghost use Rattle.std.specs.Prelude.{◌≡◌, ◌≤◌, length};
 ghost use Rattle.exh_keyer.specs.Pseudokey.{any_pseudokey};
 ghost use Rattle.exh_prefix.specs.Version.{second_version};
@@ -17,7 +17,7 @@ use exh_page::Page;
 
 /// The block of a page. It takes no memory.
 #[tactic(auto, unfolding(exh_format::specs::PageFile::page_block))]
-pub(crate) fn page_image(keyer: AnyKeyer, page: &Page) -> [u8; BLOCK_LEN]
+pub fn page_image(keyer: AnyKeyer, page: &Page) -> [u8; BLOCK_LEN]
     requires { IsWellFormed (any_pseudokey keyer) page.now }
     ensures is { result ≡ page_block page.now }
     // The types of a page hold no others.
@@ -28,7 +28,7 @@ pub(crate) fn page_image(keyer: AnyKeyer, page: &Page) -> [u8; BLOCK_LEN]
 
 /// The block of a header. It takes no memory.
 #[tactic(auto, unfolding(exh_cells::specs::PlacedFile::stamped_block))]
-pub(crate) fn header_image(header: &StampedHeader) -> [u8; BLOCK_LEN]
+pub fn header_image(header: &StampedHeader) -> [u8; BLOCK_LEN]
     requires { IsStampedHeader header.now }
     ensures { result ≡ stamped_block header.now }
 {
@@ -37,7 +37,7 @@ pub(crate) fn header_image(header: &StampedHeader) -> [u8; BLOCK_LEN]
 
 /// The walk block of some cells. It takes no memory.
 #[tactic(auto, unfolding(exh_cells::specs::PlacedFile::walk_block))]
-pub(crate) fn walk_image(cells: &[Cell]) -> [u8; BLOCK_LEN]
+pub fn walk_image(cells: &[Cell]) -> [u8; BLOCK_LEN]
     requires { length cells.now ≤ GROUP_PAGES }
     ensures { result ≡ walk_block cells.now }
 {

@@ -5,7 +5,7 @@ use Rattle.exh_codec.specs.Block.{sealed}
 use Rattle.exh_codec.specs.BlockLemmas.{front_padded}
 use Rattle.exh_format.specs.HeaderImage.{front_bytes}
 use Rattle.exh_cells.specs.StampedHeader.{placed_format, plain_header, stamped_bytes}
-use Rattle.exh_change.proofs.header_block.encode_header.Goals as goal
+use Rattle.exh_edits.proofs.header_block.encode_header.Goals as goal
 
 pub returns : goal.returns
 returns c =

@@ -1,25 +1,26 @@
 ghost use Rattle.std.specs.Prelude.{◌≡◌, ◌+◌, ◌-◌, ◌*◌, ◌^◌, ◌<◌, ◌≤◌, ℕ, List, [], ◌∷◌, ◌++◌, length, map, max, nat_eq, slice_get, slice_set, false, IfNone, IfSome, OnErr, OnOk};
 ghost use Rattle.std.specs.List.{list_any};
 ghost use Rattle.exh_codec.specs.declared.block.TheConstants.{BLOCK_LEN};
-ghost use Rattle.exh_change.specs.EditList.{AreEdits, HasPlace, IsMade, StandsOver, StoodBefore, places_of};
+ghost use Rattle.exh_edits.specs.EditsInTurn.{AreEdits, AreMoreAt, HasPlace, IsMade, StandsOver, StoodBefore, places_of};
 
+use crate::block_edit::BlockEdit;
 use exh_codec::BLOCK_LEN;
-use exh_edits::{BlockEdit, edited_blocks_stand};
 use exh_format::push_item;
 use std::alloc::{AllocError, Global};
 
 /// Blocks of a file that are to have other content, or to stand behind its last one, at most one for each place.
 #[derive(Drop)]
-pub(crate) struct Edits {
+pub struct Edits {
     /// How many blocks the file has without them.
-    pub(crate) first: u32,
-    pub(crate) items: Vec<BlockEdit>,
+    pub first: u32,
+    /// In the order in which their places were first edited.
+    pub items: Vec<BlockEdit>,
     /// How many blocks it has with them.
-    pub(crate) count: u32,
+    pub count: u32,
 }
 
-/// None, of a file of so many blocks. It takes no memory.
-pub(crate) fn no_edits(alloc: Global, count: u32) -> Edits
+/// The edits of a file of so many blocks, of which there are none yet. It takes no memory.
+pub fn no_edits(alloc: Global, count: u32) -> Edits
     ensures first { result.first ≡ count }
     ensures count { result.count ≡ count }
     ensures none { result.items.items ≡ [] }
@@ -34,11 +35,7 @@ pub(crate) fn no_edits(alloc: Global, count: u32) -> Edits
 
 /// Gives the block at a place this content, or puts a block behind the last one. It may need memory: an `AllocError` where
 /// that is refused, and the edits are as before.
-pub(crate) fn put_block(
-    edits: &mut Edits,
-    place: u32,
-    block: &[u8; BLOCK_LEN],
-) -> Result<(), AllocError>
+pub fn put_block(edits: &mut Edits, place: u32, block: &[u8; BLOCK_LEN]) -> Result<(), AllocError>
     requires edits { AreEdits edits.old.first edits.old.items.items edits.old.count }
     requires within { place ≤ edits.old.count }
     requires room { edits.old.count < 2 ^ 32 - 1 }
@@ -46,8 +43,10 @@ pub(crate) fn put_block(
     ensures edits { AreEdits edits.new.first edits.new.items.items edits.new.count }
     ensures count { OnOk result (edits.new.count ≡ max edits.old.count (place + 1)) }
     ensures made { OnOk result (IsMade edits.old.first edits.old.items.items edits.new.items.items place block.now) }
+    ensures more { OnOk result (AreMoreAt (place ∷ []) edits.old.items.items edits.new.items.items) }
+    ensures err { OnErr result (edits.new.items.items ≡ edits.old.items.items) }
+    ensures err_count { OnErr result (edits.new.count ≡ edits.old.count) }
 {
-    edited_blocks_stand();
     let edit = BlockEdit {
         place,
         block: *block,
@@ -75,13 +74,12 @@ fn add(edits: &mut Edits, edit: BlockEdit) -> Result<(), AllocError>
     Ok(())
 }
 
-/// The block that is to stand at a place, `None` where it doesn't change. It takes no memory.
-pub(crate) fn block_in(edits: &Edits, place: u32) -> Option<[u8; BLOCK_LEN]>
+/// The block that is to stand at a place, `None` where no edit is of it. It takes no memory.
+pub fn block_in(edits: &Edits, place: u32) -> Option<[u8; BLOCK_LEN]>
     requires { AreEdits edits.now.first edits.now.items.items edits.now.count }
     ensures some { IfSome result (StandsOver edits.now.first edits.now.items.items place) }
     ensures none { IfNone result (StoodBefore edits.now.first edits.now.items.items edits.now.count place) }
 {
-    edited_blocks_stand();
     match index_of(&edits.items, place) {
         Some(index) => Some(edits.items[index].block),
         None => None,

@@ -3,9 +3,9 @@ use Rattle.std.specs.Prelude.{OnErr, OnOk}
 use Rattle.std.specs.List.{list_any}
 use Rattle.exh_edits.specs.declared.block_edit.BlockEdit.{BlockEdit}
 use Rattle.exh_edits.specs.BlockEdits.{with_edits}
-use Rattle.exh_change.specs.EditList.{AreEdits, HasPlace, IsMade, places_of}
-use Rattle.exh_change.proofs.EditLists.{edits_push, in_file, is_made_again, made_push, same_edits}
-use Rattle.exh_change.proofs.edits.put_block.Goals as goal
+use Rattle.exh_edits.specs.EditsInTurn.{AreEdits, AreMoreAt, HasPlace, IsMade, places_of}
+use Rattle.exh_edits.proofs.EditsInTurn.{edits_push, in_file, is_made_again, made_push, more_again, more_pushed, same_edits}
+use Rattle.exh_edits.proofs.edits.put_block.Goals as goal
 
 -- an edit more was put behind the others, or the edits stay
 after_push : {E : Type 0} (result : Result Unit E) (old new : List BlockEdit) (first first_after count after : ℕ) (edit : BlockEdit) → AreEdits first old count → edit.place ≤ count → list_any (nat_eq edit.place) (places_of old) ≡ false → length edit.block ≡ 4096 → first_after ≡ first
@@ -32,8 +32,7 @@ returns-in-Some-clause-count c =
 pub returns-in-Some-clause-made : goal.returns-in-Some-clause-made
 returns-in-Some-clause-made c =
     let edits = c.args.edits.now in
-    let laws = c.edited_blocks_stand.ensures in
-    is_made_again laws.block laws.others laws.length edits.items.items edits.first edits.count c.args.place c.in-Some.index c.args.block.now c.requires.edits (subst (λ (items : List BlockEdit). HasPlace items c.args.place c.in-Some.index) c.deref.ensures.value c.in-Some.ensures.some) c.told-block
+    is_made_again edits.items.items edits.first edits.count c.requires.edits c.args.place c.in-Some.index c.args.block.now (subst (λ (items : List BlockEdit). HasPlace items c.args.place c.in-Some.index) c.deref.ensures.value c.in-Some.ensures.some) c.told-block
 
 pub returns-in-None-clause-edits : goal.returns-in-None-clause-edits
 returns-in-None-clause-edits c =
@@ -45,3 +44,14 @@ returns-in-None-clause-edits c =
 
 pub returns-in-None-clause-made : goal.returns-in-None-clause-made
 returns-in-None-clause-made c = made_after c.add.result c.args.edits.now.items.items c.add.new.edits.items.items c.args.edits.now.first c.args.place c.args.block.now c.add.ensures.ok
+
+more_after : {E : Type 0} (result : Result Unit E) (old new : List BlockEdit) (edit : BlockEdit) → OnOk result (new ≡ old ++ edit ∷ []) → OnOk result (AreMoreAt (edit.place ∷ []) old new)
+more_after (Ok unit) old new edit ok = subst (AreMoreAt (edit.place ∷ []) old) (sym ok) (more_pushed old edit)
+more_after (Err error) old new edit ok = tt
+
+pub returns-in-Some-clause-more : goal.returns-in-Some-clause-more
+returns-in-Some-clause-more c =
+    more_again c.args.edits.now.items.items c.args.place c.in-Some.index c.args.block.now (subst (λ (items : List BlockEdit). HasPlace items c.args.place c.in-Some.index) c.deref.ensures.value c.in-Some.ensures.some)
+
+pub returns-in-None-clause-more : goal.returns-in-None-clause-more
+returns-in-None-clause-more c = more_after c.add.result c.args.edits.now.items.items c.add.new.edits.items.items (record { place = c.args.place; block = c.args.block.now }) c.add.ensures.ok
