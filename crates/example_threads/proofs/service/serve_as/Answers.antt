@@ -4,8 +4,8 @@ use Rattle.exh_settings.specs.declared.file_settings.FileSettings.{FileSettings}
 use Rattle.exh_ward.specs.WardState.{WardState}
 use Rattle.exh_file.specs.Opened.{AreWardsOf, OpenedState, settings_in}
 use Rattle.exh_live_file.specs.LiveFile.{AreNewWardsOf, LiveState}
-use Rattle.example_use.specs.Unasked.{AreUnasked}
-use Rattle.example_use.proofs.service.serve_as.Goals as goal
+use Rattle.example_threads.specs.Unasked.{AreUnasked}
+use Rattle.example_threads.proofs.service.serve_as.Goals as goal
 
 -- a file's wards of which nothing was asked are those that a live file begins with
 new_wards : (opened : OpenedState) (wards : List (WardState AnyKeyer)) → wards ≡ opened.wards → AreWardsOf opened → AreUnasked opened → AreNewWardsOf (settings_in opened) wards

@@ -3,7 +3,7 @@ ghost use Rattle.std.specs.Prelude.{◌≡◌, ◌≤◌, ◌^◌, length};
 ghost use Rattle.exh_keyer.specs.Pseudokey.{any_pseudokey};
 ghost use Rattle.exh_live_file.specs.declared.ledgers.TheConstants.{ANSWER_PARTS, ENTRY_PARTS};
 ghost use Rattle.exh_prefix.specs.declared.prefix.TheConstants.{WARD_BITS_LIMIT};
-ghost use Rattle.example_use.specs.Unasked.{AreUnasked};
+ghost use Rattle.example_threads.specs.Unasked.{AreUnasked};
 
 use crate::caller::{Caller, File, Pair};
 use anyhow::{Context, bail};

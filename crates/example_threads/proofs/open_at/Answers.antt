@@ -1,7 +1,7 @@
 use Rattle.std.proofs.Common.{ap}
 use Rattle.exh_keyer.specs.declared.any_keyer.AnyKeyer.{AnyKeyer}
 use Rattle.exh_ward.specs.WardState.{WardState}
-use Rattle.example_use.proofs.open_at.Goals as goal
+use Rattle.example_threads.proofs.open_at.Goals as goal
 
 -- the wards of an opened file have no history
 pub returns : goal.returns

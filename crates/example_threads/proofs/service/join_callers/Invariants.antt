@@ -1,5 +1,5 @@
 use Rattle.std.proofs.Common.{◌≡◌, ◌^◌, length}
-use Rattle.example_use.proofs.service.join_callers.Given as goal
+use Rattle.example_threads.proofs.service.join_callers.Given as goal
 
 -- there is a place for each ward
 abbrev pub invariant-loop-thread : goal.invariant-loop-thread

@@ -1,5 +1,5 @@
 use Rattle.exh_keyer.specs.Pseudokey.{any_pseudokey}
-use Rattle.example_use.proofs.service.serve.Given as goal
+use Rattle.example_threads.proofs.service.serve.Given as goal
 
 abbrev pub ghosts-serve_as-F-LedgerNames : goal.ghosts-serve_as-F-LedgerNames
 ghosts-serve_as-F-LedgerNames g a = record { answers = a.answers.name; entries = a.entries.name }
