@@ -76,7 +76,7 @@ wards_again_if old (Err fault) are again = tt
 abbrev map_of_pairs : List (List ℕ × List ℕ) → KeyMap
 map_of_pairs pairs = fin.from_entries pairs
 
-all_pairs : (wards : List (WardState AnyKeyer)) → map pair_of (flat_map records_of (pages_of (pages_of_all wards))) ≡ pairs_in wards
+pub all_pairs : (wards : List (WardState AnyKeyer)) → map pair_of (flat_map records_of (pages_of (pages_of_all wards))) ≡ pairs_in wards
 all_pairs [] = refl
 all_pairs (ward ∷ wards) =
     ap (map pair_of) (flat_map-append records_of ward.pages (pages_of (pages_of_all wards)))

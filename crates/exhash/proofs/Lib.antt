@@ -6,3 +6,4 @@ pub mod AnswerLemmas
 pub mod LeftLemmas
 pub mod WholeMap
 pub mod CommitLemmas
+pub mod OnceLemmas

@@ -7,7 +7,7 @@ ghost use Rattle.exh_file.specs.Opened.{AreWardsOf, settings_in};
 ghost use Rattle.exh_file.specs.Reopened.{IsReopened};
 ghost use Rattle.exhash.specs.Answers.{value_said};
 ghost use Rattle.exhash.specs.FileMap.{IsGot, IsPut, IsPutAbsent, IsPutNew, IsPutOver, IsRemoved, IsReplaced, IsSwap, KeepsMap};
-ghost use Rattle.exhash.specs.Pairs.{pairs_in};
+ghost use Rattle.exhash.specs.Pairs.{AreOnce, pairs_in};
 
 use crate::answering::answer_in;
 use crate::copying::copied;
@@ -196,6 +196,7 @@ impl<P: Pages + Drop> FileMap<P> {
     /// Errors: as of `get`.
     pub fn pairs(&mut self, alloc: Global) -> Result<Pairs, WardFault>
         ensures pairs { IfOk result (λ pairs. pairs ≡ pairs_in self.old.wards) }
+        ensures once { IfOk result (λ pairs. AreOnce pairs) }
         ensures map { IfOk result (λ pairs. (whole : KeyMap) → HasMap self.old whole → from_entries pairs ≡ whole) }
         ensures same { OnOk result (self.new ≡ self.old) }
         ensures err { OnErr result (KeepsMap self.old self.new) }

@@ -4,7 +4,7 @@ ghost use Rattle.exh_file.specs.FileChange.{HasMap};
 ghost use Rattle.exh_file.specs.Opened.{AreWardsOf, in_file, settings_in};
 ghost use Rattle.exh_page.specs.KeyMap.{KeyMap};
 ghost use Rattle.exhash.specs.FileMap.{KeepsMap};
-ghost use Rattle.exhash.specs.Pairs.{pairs_in};
+ghost use Rattle.exhash.specs.Pairs.{AreOnce, pairs_in};
 
 use crate::ward_pairs::push_ward;
 use exh_calls::{PackedPairs, Pairs as ReadPairs};
@@ -55,6 +55,7 @@ pub(crate) fn pairs_of<P: Pages + Drop>(
 ) -> Result<Pairs, WardFault>
     requires { AreWardsOf (in_file settings wards.old.items) }
     ensures pairs { IfOk result (λ pairs. pairs ≡ pairs_in wards.old.items) }
+    ensures once { OnOk result (AreOnce (pairs_in wards.old.items)) }
     ensures ok { OnOk result (wards.new.items ≡ wards.old.items) }
     ensures err { OnErr result (KeepsMap (in_file settings wards.old.items) (in_file settings wards.new.items)) }
     ensures wards { AreWardsOf (in_file settings wards.new.items) }

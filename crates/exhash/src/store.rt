@@ -5,7 +5,7 @@ ghost use Rattle.exh_file.specs.FileChange.{HasMap};
 ghost use Rattle.exh_file.specs.Opened.{settings_in};
 ghost use Rattle.exh_page.specs.KeyMap.{KeyMap};
 ghost use Rattle.exhash.specs.FileMap.{IsGot, IsPut, IsPutNew, IsRemoved, IsReplaced, IsSwap, KeepsMap};
-ghost use Rattle.exhash.specs.Pairs.{pairs_in};
+ghost use Rattle.exhash.specs.Pairs.{AreOnce, pairs_in};
 
 use crate::held_file::HeldFile;
 use crate::new_file::make;
@@ -209,6 +209,7 @@ impl<'r> Store<'r> {
     /// `Memory`: a growth was refused.
     pub fn pairs(&mut self) -> Result<Pairs, StoreError>
         ensures pairs { IfOk result (λ pairs. pairs ≡ pairs_in self.old.map.wards) }
+        ensures once { IfOk result (λ pairs. AreOnce pairs) }
         ensures map { IfOk result (λ pairs. (whole : KeyMap) → HasMap self.old.map whole → from_entries pairs ≡ whole) }
         ensures same { OnOk result (self.new.map ≡ self.old.map) }
         ensures err { OnErr result (KeepsMap self.old.map self.new.map) }

@@ -1,13 +1,13 @@
 //! The pairs of a ward, page by page, and how many they are.
-ghost use Rattle.std.specs.Prelude.{◌≡◌, ◌++◌, IfOk, OnErr, OnOk, length, map};
+ghost use Rattle.std.specs.Prelude.{◌≡◌, ◌++◌, OnErr, OnOk, map};
 ghost use Rattle.exh_page.specs.KeyMap.{pair_of};
 ghost use Rattle.exh_page.specs.Page.{records_of};
-ghost use Rattle.exh_ward.specs.WardState.{IsUnchanged};
-ghost use Rattle.exhash.specs.Pairs.{count_of, pairs_of};
+ghost use Rattle.exh_ward.specs.WardState.{IsSoundWard, IsUnchanged};
+ghost use Rattle.exhash.specs.Pairs.{pairs_of};
 
 use exh_calls::PackedPairs;
 use exh_keyer::Keyer;
-use exh_page::{Page, PageHead, Records};
+use exh_page::{Page, Records};
 use exh_stores::Pages;
 use exh_ward::{Ward, WardFault};
 use std::alloc::AllocError;
@@ -22,12 +22,21 @@ pub(crate) fn push_ward<P: Pages + Drop, K: Keyer>(
     ensures pairs { OnOk result (pairs.new ≡ pairs.old ++ pairs_of ward.old.pages) }
     ensures same { OnOk result (ward.new ≡ ward.old) }
     ensures err { OnErr result (IsUnchanged ward.old ward.new) }
+    ensures sound { IsSoundWard K.pseudokey_of ward.old }
 {
+    see_sound(ward);
     'pages: for number in 0..ward.page_count() {
         let page = ward.page(number)?;
         push_page(pairs, &page)?;
     }
     Ok(())
+}
+
+// A ward is sound. This does nothing.
+fn see_sound<P: Pages + Drop, K: Keyer>(ward: &Ward<P, K>)
+    ensures { IsSoundWard K.pseudokey_of ward.now }
+{
+    let _table = ward.table();
 }
 
 // Puts the pairs of a page behind others.
