@@ -1,62 +1,31 @@
-//! A page file at work: it is opened, callers on threads of their own put into it and get from it while a courier tells
-//! their copy of the directory of splits, what they were answered is settled, and the file is saved. A program of one's
-//! own may begin as a copy of this one.
+//! A page file used as a map: it is opened or made, pairs are put into it, got and swapped, and it is committed. A program
+//! of one's own may begin as a copy of this one.
 #![tactic(auto)]
 
-ghost use Rattle.std.specs.Prelude.{IfOk};
-ghost use Rattle.example_use.specs.Unasked.{AreUnasked};
-
-mod caller;
-mod service;
-
-use crate::service::{NAMES, serve};
-use anyhow::Context;
-use exh_file::{Draft, Opened, open};
-use exh_frames::FileStore;
-use exh_path::{OpenedFile, SystemDisk, open_above, save_at};
-use exh_stream::{Console, Meter, Unit, Work};
+use exhash::{Store, StoreError, Swap, USUAL, Value};
 use std::str;
 
-// The page file. It was made by `exhash load people.exh`.
+// The page file.
 const PATH: &str = "people.exh";
 
-fn main(rt: HostRuntime) -> anyhow::Result<()> {
-    let (opened, seen) = open_at(&rt, PATH)?;
-    let served = serve(&rt, rt.alloc(), opened)?;
-    for (name, value) in NAMES.iter().zip(&served.values) {
-        let text = str::from_utf8(value.as_bytes()).context("a value isn't text")?;
-        println!(rt; "{name} is {text}")?;
+fn main(rt: HostRuntime) -> Result<(), StoreError> {
+    let mut store = Store::open_or_create(&rt, PATH, USUAL)?;
+    store.put(b"ann", b"red")?;
+    store.put(b"bob", b"blue")?;
+    if store.swap(b"bob", b"blue", b"green")? == Swap::Swapped {
+        println!(rt; "bob was blue")?;
     }
-    println!(rt; "settled {}", served.answers)?;
-    save(&rt, PATH, &seen, served.opened)
-}
-
-// The wards of the page file of a path, and the file, which is held open.
-fn open_at(rt: &HostRuntime, path: &str) -> anyhow::Result<(Opened<FileStore>, OpenedFile)>
-    ensures { IfOk result (λ opened. AreUnasked opened.0) }
-{
-    let seen = SystemDisk::new(rt).seen(path, open_above(rt, path)?)?;
-    let opened = open(rt.alloc(), &mut seen.opened())?;
-    Ok((opened, seen))
-}
-
-// Saves wards as the page file of a path, where that is still the one that was opened. A terminal is told how far it is.
-fn save(
-    rt: &HostRuntime,
-    path: &str,
-    seen: &OpenedFile,
-    opened: Opened<FileStore>,
-) -> anyhow::Result<()> {
-    let work = Work {
-        unit: Unit::BlocksWritten,
-        of: None,
-    };
-    let meter = Meter::new(Console::new(rt, rt.stderr()), work);
-    let mut disk = SystemDisk::new(rt);
-    let draft = Draft::plain(opened);
-    let (saved, _) = save_at(rt.alloc(), &mut disk, path, Some(seen), draft, &meter);
-    meter.clear();
-    saved?;
-    println!(rt; "saved {path}")?;
+    if let Some(value) = store.get(b"bob")? {
+        println!(rt; "bob is {}", text(&value))?;
+    }
+    store.commit()?;
+    for (_, value) in store.pairs()?.iter() {
+        println!(rt; "{}", text(&value))?;
+    }
     Ok(())
+}
+
+// A value as text.
+fn text(value: &Value) -> &str {
+    str::from_utf8(value.as_bytes()).unwrap_or("no text")
 }

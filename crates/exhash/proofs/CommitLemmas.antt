@@ -1,0 +1,126 @@
+-- What a draft of a map's wards has, and what is left of a file over which it is saved.
+use Rattle.std.proofs.Common.{◌≡◌, ℕ, ◌^◌, Bool, List, [], ◌∷◌, ◌++◌, map, Result, Ok, Err, IfOk, inl, inr, refl, sym, ap, ap₂, ◌∙◌, subst, arith}
+use Rattle.std.specs.FinMap as fin
+use Rattle.std.specs.List.{flat_map}
+use Rattle.std.proofs.lemmas.Grind.{flat_map-append}
+use Rattle.std.proofs.lemmas.List.{map-append}
+use Rattle.sqlite_disk.specs.declared.Disk.{Ghosts}
+use Rattle.sqlite_disk.specs.Disk.{Only}
+use Rattle.sqlite_wal.specs.Files.{seen_image}
+use Rattle.sqlite_wal.specs.Recovery.{Image}
+use Rattle.exh_keyer.specs.declared.any_keyer.AnyKeyer.{AnyKeyer}
+use Rattle.exh_keyer.specs.Pseudokey.{any_pseudokey}
+use Rattle.exh_page.specs.KeyMap.{KeyMap, pair_of}
+use Rattle.exh_page.specs.Page.{records_of}
+use Rattle.exh_page.specs.declared.page.Page.{Page}
+use Rattle.exh_legal.specs.Pages.{map_of}
+use Rattle.exh_format.specs.PageFile.{pages_of}
+use Rattle.exh_ward.specs.WardState.{WardState}
+use Rattle.exh_commit.specs.FilePages.{Leaves, LeavesAlone, StandsFor}
+use Rattle.exh_file.specs.Draft.{DraftState, IsGrown, IsSaving, bytes_in}
+use Rattle.exh_file.specs.FileChange.{AreParts, HasMap, maps_in}
+use Rattle.exh_file.specs.Opened.{AreWardsOf, OpenedState}
+use Rattle.exh_file.specs.Placing.{IsPlacedSaving, placed_file, tables_of_all}
+use Rattle.exh_file.specs.Reopened.{IsReopened}
+use Rattle.exh_file.specs.Saved.{pages_of_all}
+use Rattle.exh_file.specs.declared.placing.Form.{Form}
+use Rattle.exh_file.specs.declared.placing.Placing.{Placing}
+use Rattle.exh_file.specs.declared.placing.Stamps.{Stamps}
+use Rattle.exh_paged.specs.CallChange.{HasPairs}
+use Rattle.exh_paged.specs.Saving.{IsOldOrSaved, IsSavedOver}
+use Rattle.exhash.specs.Commit.{Drafts, IsCommitted, IsOldOrCommitted}
+use Rattle.exhash.specs.FileMap.{KeepsMap}
+use Rattle.exhash.specs.Pairs.{pairs_in, pairs_of}
+use Rattle.exhash.specs.declared.store_error.StoreError.{StoreError}
+use Rattle.exhash.proofs.LeftLemmas.{maps_alike, own_map, same_ward}
+use Rattle.exhash.proofs.WholeMap.{whole_is}
+
+-- ---- wards that were opened again
+
+module _ (old new : OpenedState) (again : IsReopened old new) where
+  pub keeps_again : KeepsMap old new
+  keeps_again whole has =
+      let maps : maps_in new ≡ maps_in old = maps_alike old.wards new.wards again.count (λ number ward left was there. ap own_map (again.each number ward left was there)) in
+      let own = subst (AreParts old.ward_bits (any_pseudokey old.keyer) whole) (sym maps) has in
+      let bits = subst (λ (bits : ℕ). AreParts bits (any_pseudokey old.keyer) whole (maps_in new)) (sym again.bits) own in
+      subst (λ (keyer : AnyKeyer). AreParts new.ward_bits (any_pseudokey keyer) whole (maps_in new)) (sym again.keyer) bits
+
+  pub wards_again : AreWardsOf old → AreWardsOf new
+  wards_again are = record {
+    some = omega (arith, are.some, again.cap);
+    most = omega (arith, are.most, again.cap);
+    bits = omega (arith, are.bits, again.bits);
+    count = again.count ∙ are.count ∙ ap (λ (bits : ℕ). 2 ^ bits) (sym again.bits);
+    each = λ number ward there.
+        let was = same_ward old.wards new.wards number ward again.count there in
+        let is = again.each number was.0 ward was.1 there in
+        let own = are.each number was.0 was.1 in
+        record {
+          cap = ap (λ (w : WardState AnyKeyer). w.cap) is ∙ own.cap ∙ sym again.cap;
+          bits = ap (λ (w : WardState AnyKeyer). w.ward_bits) is ∙ own.bits ∙ sym again.bits;
+          number_is = ap (λ (w : WardState AnyKeyer). w.number) is ∙ own.number_is;
+          keyer = ap (λ (w : WardState AnyKeyer). w.keyer) is ∙ own.keyer ∙ sym again.keyer;
+        };
+  }
+
+pub keeps_again_if : (old : OpenedState) (result : Result OpenedState StoreError) → IfOk result (IsReopened old) → IfOk result (λ copy. KeepsMap old copy)
+keeps_again_if old (Ok copy) again = keeps_again old copy again
+keeps_again_if old (Err fault) again = tt
+
+pub wards_again_if : (old : OpenedState) (result : Result OpenedState StoreError) → AreWardsOf old → IfOk result (IsReopened old) → IfOk result (λ copy. AreWardsOf copy)
+wards_again_if old (Ok copy) are again = wards_again old copy again are
+wards_again_if old (Err fault) are again = tt
+
+-- ---- the pairs of a page file
+
+abbrev map_of_pairs : List (List ℕ × List ℕ) → KeyMap
+map_of_pairs pairs = fin.from_entries pairs
+
+pub all_pairs : (wards : List (WardState AnyKeyer)) → map pair_of (flat_map records_of (pages_of (pages_of_all wards))) ≡ pairs_in wards
+all_pairs [] = refl
+all_pairs (ward ∷ wards) =
+    ap (map pair_of) (flat_map-append records_of ward.pages (pages_of (pages_of_all wards)))
+    ∙ map-append pair_of (flat_map records_of ward.pages) (flat_map records_of (pages_of (pages_of_all wards)))
+    ∙ ap (λ (more : List (List ℕ × List ℕ)). pairs_of ward.pages ++ more) (all_pairs wards)
+
+has_pairs : (opened : OpenedState) (are : AreWardsOf opened) (placing : Placing) (bytes : List ℕ) (whole : KeyMap) → HasMap opened whole → IsPlacedSaving opened placing bytes → HasPairs bytes whole
+has_pairs opened are placing bytes whole has saving = record {
+  file = placed_file opened placing;
+  tables = tables_of_all opened.wards;
+  legal = saving.legal;
+  is = ap (λ (wards : List (List Page)). map_of (pages_of wards)) saving.wards_are ∙ ap map_of_pairs (all_pairs opened.wards) ∙ whole_is opened are whole has;
+}
+
+pub drafts : (opened : OpenedState) (lows : List ℕ) (stamps : Stamps) (draft : DraftState) → AreWardsOf opened → IsGrown opened lows stamps draft → (whole : KeyMap) → HasMap opened whole → Drafts whole draft
+drafts opened lows stamps draft are grown whole has bytes saving =
+    let so = grown.2 in
+    let own = subst (λ (wards : OpenedState). IsSaving wards draft.form bytes) so.opened_is saving in
+    has_pairs opened are so.placing bytes whole has (subst (λ (form : Form). IsSaving opened form bytes) so.form_is own)
+
+-- ---- what is left
+
+committed : (truthful : Bool) (draft : DraftState) (whole : KeyMap) (old new : List ℕ) → Drafts whole draft → IsSavedOver truthful draft old new → IsCommitted truthful whole new
+committed truthful draft whole old new of saved truth = subst (λ (bytes : List ℕ). HasPairs bytes whole) (sym (saved.drafted truth)) (of (bytes_in draft) saved.legal)
+
+old_or_committed : (truthful : Bool) (draft : DraftState) (whole : KeyMap) (old new : List ℕ) → Drafts whole draft → IsOldOrSaved truthful draft old new → IsOldOrCommitted truthful whole old new
+old_or_committed truthful draft whole old new of (inl same) = inl same
+old_or_committed truthful draft whole old new of (inr saved) = inr (committed truthful draft whole old new of saved)
+
+module _ {D : Type 0} (g : Ghosts D) (files : D × D) (truthful : Bool) (draft : DraftState) (whole : KeyMap) (old : List ℕ) (of : Drafts whole draft) where
+  pub leaves_either : Leaves g files (IsOldOrSaved truthful draft old) → Leaves g files (IsOldOrCommitted truthful whole old)
+  leaves_either all left clean may =
+      let (bytes, stands, holds) = all left clean may in
+      (bytes, stands, old_or_committed truthful draft whole old bytes of holds)
+
+  pub leaves_committed : LeavesAlone g files (IsSavedOver truthful draft old) → LeavesAlone g files (IsCommitted truthful whole)
+  leaves_committed all left clean may =
+      let (bytes, stands, holds) = all left clean may in
+      (bytes, stands, committed truthful draft whole old bytes of holds)
+
+-- files that nothing was done to
+pub leaves_untouched : {D : Type 0} (g : Ghosts D) (log db : D) (truthful : Bool) (whole : KeyMap) (old : List ℕ) → Only (g.seen log) (g.may_leave log) → Only (g.seen db) (g.may_leave db) → StandsFor (seen_image g log db) old
+    → Leaves g (log, db) (IsOldOrCommitted truthful whole old)
+leaves_untouched {D} g log db truthful whole old log_synced db_synced found left clean may =
+    let of_two : List ℕ → List ℕ → Image = λ log db. record { log = log; db = db } in
+    let is : left ≡ seen_image g log db = ap₂ of_two (log_synced left.log may.0) (db_synced left.db may.1) in
+    (old, subst (λ (image : Image). StandsFor image old) (sym is) found, inl refl)

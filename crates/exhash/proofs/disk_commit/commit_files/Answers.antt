@@ -1,0 +1,18 @@
+use Rattle.std.proofs.Common.{Result, Ok, Err, OnOk}
+use Rattle.exhash.specs.declared.store_error.StoreError.{StoreError}
+use Rattle.exhash.proofs.CommitLemmas.{leaves_untouched}
+use Rattle.exhash.proofs.disk_commit.commit_files.Goals as goal
+
+on_ok : {P Q : Type 0} (result : Result (Unit {0}) StoreError) → (P → Q) → OnOk result P → OnOk result Q
+on_ok (Ok done) then holds = then holds
+on_ok (Err fault) then holds = tt
+
+pub returns-in-Ok-clause-ok : goal.returns-in-Ok-clause-ok
+returns-in-Ok-clause-ok g c = on_ok c.save_draft.result.0 (λ all whole has old stands. all whole (c.in-Ok.ensures.draft whole has) old stands) c.save_draft.ensures.ok
+
+pub returns-in-Ok-clause-crash : goal.returns-in-Ok-clause-crash
+returns-in-Ok-clause-crash g c whole has old stands = c.save_draft.ensures.crash whole (c.in-Ok.ensures.draft whole has) old stands
+
+pub returns-in-Err-clause-crash : goal.returns-in-Err-clause-crash
+returns-in-Err-clause-crash g c whole has old stands =
+    leaves_untouched g.D.Disk c.args.files.log c.args.files.db g.D.Truthful.is_truthful whole old c.requires.log_synced c.requires.db_synced stands

@@ -1,0 +1,25 @@
+use Rattle.std.proofs.Common.{ℕ, List, Result, OnOk, subst}
+use Rattle.sqlite_wal.specs.Files.{seen_image}
+use Rattle.exh_commit.specs.FilePages.{LeavesAlone, StandsFor}
+use Rattle.exh_paged.specs.Saving.{IsSavedOver}
+use Rattle.exh_paged.specs.declared.save_files_fault.SaveFilesFault.{SaveFilesFault}
+use Rattle.exhash.proofs.CommitLemmas.{leaves_committed, leaves_either}
+use Rattle.exhash.proofs.disk_commit.save_draft.Goals as goal
+
+pub returns-in-Ok-clause-crash : goal.returns-in-Ok-clause-crash
+returns-in-Ok-clause-crash g c whole of old stands =
+    let back = c.save_files-saved.result.1 in
+    leaves_either g.D.Disk (back.log, back.db) g.D.Truthful.is_truthful c.args.draft whole old of (c.save_files-saved.ensures.crash old stands)
+
+pub returns-in-Err-clause-crash : goal.returns-in-Err-clause-crash
+returns-in-Err-clause-crash g c whole of old stands =
+    let back = c.save_files-saved.result.1 in
+    leaves_either g.D.Disk (back.log, back.db) g.D.Truthful.is_truthful c.args.draft whole old of (c.save_files-saved.ensures.crash old stands)
+
+pub returns-in-Ok-clause-ok : goal.returns-in-Ok-clause-ok
+returns-in-Ok-clause-ok g c whole of old stands =
+    let back = c.save_files-saved.result.1 in
+    let all : (old : List ℕ) → StandsFor (seen_image g.D.Disk c.args.files.log c.args.files.db) old → LeavesAlone g.D.Disk (back.log, back.db) (IsSavedOver g.D.Truthful.is_truthful c.args.draft old) =
+    subst (λ (saved : Result (Unit {0}) SaveFilesFault). OnOk saved ((old : List ℕ) → StandsFor (seen_image g.D.Disk c.args.files.log c.args.files.db) old → LeavesAlone g.D.Disk (back.log, back.db) (IsSavedOver g.D.Truthful.is_truthful c.args.draft old)))
+    c.in-Ok.is c.save_files-saved.ensures.ok in
+    leaves_committed g.D.Disk (back.log, back.db) g.D.Truthful.is_truthful c.args.draft whole old of (all old stands)

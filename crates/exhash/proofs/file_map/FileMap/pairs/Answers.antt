@@ -1,0 +1,23 @@
+use Rattle.std.proofs.Common.{◌≡◌, ℕ, List, Result, Ok, Err, IfOk, OnErr, ap, ◌∙◌, subst}
+use Rattle.std.specs.FinMap.{from_entries}
+use Rattle.exh_page.specs.KeyMap.{KeyMap}
+use Rattle.exh_ward.specs.declared.ward_fault.WardFault.{WardFault}
+use Rattle.exh_file.specs.FileChange.{HasMap}
+use Rattle.exh_file.specs.Opened.{AreWardsOf, OpenedState, in_file}
+use Rattle.exhash.specs.FileMap.{KeepsMap}
+use Rattle.exhash.specs.Pairs.{pairs_in}
+use Rattle.exhash.proofs.WholeMap.{whole_is}
+use Rattle.exhash.proofs.file_map.FileMap.pairs.Goals as goal
+
+map_if : (file : OpenedState) (result : Result (List (List ℕ × List ℕ)) WardFault) → AreWardsOf file → IfOk result (λ pairs. pairs ≡ pairs_in file.wards) → IfOk result (λ pairs. (whole : KeyMap) → HasMap file whole → from_entries pairs ≡ whole)
+map_if file (Ok pairs) are is = λ whole has. ap from_entries is ∙ whole_is file are whole has
+map_if file (Err fault) are is = tt
+
+pub returns-clause-map : goal.returns-clause-map
+returns-clause-map g c =
+    subst (λ (file : OpenedState). IfOk c.pairs_of.result (λ pairs. (whole : KeyMap) → HasMap file whole → from_entries pairs ≡ whole)) c.self.view_is
+    (map_if (in_file c.self.inside.settings c.self.inside.wards.items) c.pairs_of.result c.self.invariant c.pairs_of.ensures.pairs)
+
+pub returns-clause-err : goal.returns-clause-err
+returns-clause-err g c =
+    subst (λ (old : OpenedState). OnErr c.pairs_of.result (KeepsMap old (in_file c.self.inside.settings c.pairs_of.new.wards.items))) c.self.view_is c.pairs_of.ensures.err

@@ -1,0 +1,42 @@
+//! Calls that page files of version 3 answer in place.
+
+use crate::StoreError;
+use crate::reading::opened_at;
+use exh_calls::{Call, Reply};
+use exh_codec::BLOCK_LEN;
+use exh_format::{Header, version_in};
+use exh_in_place::change_at;
+use std::fs::File;
+use std::io::ErrorKind;
+use std::os::unix::fs::FileExt;
+
+/// The reply of the page file of a path to a call, by which it is changed in place.
+///
+/// `OldVersion`: it is of version 1 or 2. `Absent`: nothing is there, or an empty file. Others: as of `Direct::put`.
+pub(crate) fn changed_at(rt: &HostRuntime, path: &str, call: &Call) -> Result<Reply, StoreError> {
+    match change_at(rt, path, call)? {
+        Some(reply) => Ok(reply),
+        None => Err(unchanged(rt, path)),
+    }
+}
+
+// Why the file of a path isn't changed in place, where it isn't a page file of version 3, or isn't opened.
+fn unchanged(rt: &HostRuntime, path: &str) -> StoreError {
+    match opened_at(rt, path) {
+        Ok(file) => unchanged_file(&file),
+        Err(fault) => fault,
+    }
+}
+
+// Why an open file that is no page file of version 3 isn't changed in place.
+fn unchanged_file(file: &File) -> StoreError {
+    let mut block = [0; BLOCK_LEN];
+    match file.read_exact_at(&mut block, 0) {
+        Ok(()) => match Header::from_block(version_in(&block), &block) {
+            Ok(_) => StoreError::OldVersion,
+            Err(fault) => StoreError::from(fault),
+        },
+        Err(error) if error.kind() == ErrorKind::UnexpectedEof => StoreError::Truncated,
+        Err(error) => StoreError::from(error),
+    }
+}

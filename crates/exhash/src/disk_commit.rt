@@ -1,0 +1,102 @@
+//! Commits over any disk.
+ghost use Rattle.std.specs.Prelude.{◌≡◌, ℕ, List, IfOk, IsTrue, OnOk};
+ghost use Rattle.sqlite_disk.specs.Disk.{Only};
+ghost use Rattle.sqlite_wal.specs.Files.{seen_image};
+ghost use Rattle.exh_commit.specs.FilePages.{Leaves, LeavesAlone, StandsFor};
+ghost use Rattle.exh_file.specs.FileChange.{HasMap};
+ghost use Rattle.exh_file.specs.Opened.{settings_in};
+ghost use Rattle.exh_page.specs.KeyMap.{KeyMap};
+ghost use Rattle.exhash.specs.Commit.{Drafts, IsCommitted, IsOldOrCommitted};
+ghost use Rattle.exhash.specs.FileMap.{KeepsMap};
+
+use crate::drafting::drafted;
+use crate::{FileMap, StoreError};
+use exh_commit::Truthful;
+use exh_file::{Draft, Stamps};
+use exh_frames::FileStore;
+use exh_in_place::Refused;
+use exh_paged::save_files;
+use exh_stores::Pages;
+use sqlite_disk::Files;
+use sqlite_pager::Options;
+use std::alloc::Global;
+
+/// Saves a map over the page file of version 3 that its wards came of, which is opened with its log, whatever a crash left of
+/// them: of its blocks those are written that differ. Then it gives both back. The pages that have places in the file have
+/// these low bounds there, in this order; the file has the stamp `before`, and gets the stamp `own`.
+///
+/// `Changed`: the file is another state than that. `Unsure`: the change may be saved, or was. Others: nothing was saved, as
+/// they say.
+pub fn commit_files<D: Truthful + Drop, P: Pages + Drop>(
+    alloc: Global,
+    files: Files<D>,
+    options: Options,
+    lows: &[u64],
+    stamps: Stamps,
+    map: &mut FileMap<P>,
+) -> (Result<(), StoreError>, Files<D>)
+    requires log { IsTrue (D.Disk.is_usable files.log) }
+    requires db { IsTrue (D.Disk.is_usable files.db) }
+
+    // After a restart, what is read is what is on the disk.
+    requires log_synced { Only (D.Disk.seen files.log) (D.Disk.may_leave files.log) }
+    requires db_synced { Only (D.Disk.seen files.db) (D.Disk.may_leave files.db) }
+
+    // However far it gets, a crash leaves the old bytes, or a page file with the pairs of the map.
+    ensures crash { (whole : KeyMap) → HasMap map.old whole → (old : List ℕ) → StandsFor (seen_image D.Disk files.log files.db) old
+        → Leaves D.Disk (result.1.log, result.1.db) (IsOldOrCommitted D.Truthful.is_truthful whole old) }
+
+    // The file alone, without its log, has the pairs of the map.
+    ensures ok { OnOk result.0 ((whole : KeyMap) → HasMap map.old whole → (old : List ℕ) → StandsFor (seen_image D.Disk files.log files.db) old
+        → LeavesAlone D.Disk (result.1.log, result.1.db) (IsCommitted D.Truthful.is_truthful whole)) }
+
+    // The map is as before.
+    ensures kept { KeepsMap map.old map.new }
+    ensures settings { settings_in map.new ≡ settings_in map.old }
+{
+    match draft_of(alloc, lows, stamps, map) {
+        Ok(draft) => save_draft(alloc, files, options, stamps.before, draft),
+        Err(fault) => (Err(fault), files),
+    }
+}
+
+// The draft of a copy of a map's wards.
+fn draft_of<P: Pages + Drop>(
+    alloc: Global,
+    lows: &[u64],
+    stamps: Stamps,
+    map: &mut FileMap<P>,
+) -> Result<Draft<FileStore>, StoreError>
+    ensures draft { IfOk result (λ draft. (whole : KeyMap) → HasMap map.old whole → Drafts whole draft) }
+    ensures kept { KeepsMap map.old map.new }
+    ensures settings { settings_in map.new ≡ settings_in map.old }
+{
+    match map.copied(alloc) {
+        Ok(copy) => drafted(alloc, copy, lows, stamps),
+        Err(fault) => Err(fault),
+    }
+}
+
+// Saves a draft over a file that has this stamp.
+fn save_draft<D: Truthful + Drop>(
+    alloc: Global,
+    files: Files<D>,
+    options: Options,
+    stamp: u64,
+    draft: Draft<FileStore>,
+) -> (Result<(), StoreError>, Files<D>)
+    requires log { IsTrue (D.Disk.is_usable files.log) }
+    requires db { IsTrue (D.Disk.is_usable files.db) }
+    requires log_synced { Only (D.Disk.seen files.log) (D.Disk.may_leave files.log) }
+    requires db_synced { Only (D.Disk.seen files.db) (D.Disk.may_leave files.db) }
+    ensures crash { (whole : KeyMap) → Drafts whole draft → (old : List ℕ) → StandsFor (seen_image D.Disk files.log files.db) old
+        → Leaves D.Disk (result.1.log, result.1.db) (IsOldOrCommitted D.Truthful.is_truthful whole old) }
+    ensures ok { OnOk result.0 ((whole : KeyMap) → Drafts whole draft → (old : List ℕ) → StandsFor (seen_image D.Disk files.log files.db) old
+        → LeavesAlone D.Disk (result.1.log, result.1.db) (IsCommitted D.Truthful.is_truthful whole)) }
+{
+    let (saved, files) = save_files(alloc, files, options, stamp, draft);
+    match saved {
+        Ok(()) => (Ok(()), files),
+        Err(fault) => (Err(StoreError::from(Refused::from(fault))), files),
+    }
+}

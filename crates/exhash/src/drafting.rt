@@ -1,0 +1,30 @@
+//! The wards of a map as they are saved over the page file of version 3 that they came of.
+ghost use Rattle.std.specs.Prelude.{IfOk};
+ghost use Rattle.exh_file.specs.FileChange.{HasMap};
+ghost use Rattle.exh_file.specs.Opened.{AreWardsOf};
+ghost use Rattle.exh_page.specs.KeyMap.{KeyMap};
+ghost use Rattle.exhash.specs.Commit.{Drafts};
+
+use crate::StoreError;
+use exh_file::{Draft, Opened, Stamps};
+use exh_frames::FileStore;
+use std::alloc::Global;
+
+/// The draft of wards some of whose pages have places already, where they have these low bounds. It takes memory for some
+/// bytes a page.
+///
+/// `Changed`: they aren't pages of these wards. `Memory`: a growth was refused. `OutOfReach`: a page is out of reach.
+pub(crate) fn drafted(
+    alloc: Global,
+    wards: Opened<FileStore>,
+    lows: &[u64],
+    stamps: Stamps,
+) -> Result<Draft<FileStore>, StoreError>
+    requires { AreWardsOf wards }
+    ensures { IfOk result (λ draft. (whole : KeyMap) → HasMap wards whole → Drafts whole draft) }
+{
+    match Draft::grown(alloc, wards, lows, stamps) {
+        Ok(draft) => Ok(draft),
+        Err(fault) => Err(StoreError::from(fault)),
+    }
+}

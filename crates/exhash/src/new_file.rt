@@ -1,0 +1,85 @@
+//! New page files, and those that replace others.
+
+use crate::{Settings, StoreError};
+use exh_file::{Draft, Opened, Stamps};
+use exh_frames::{FileStore, MAKER};
+use exh_path::{OpenedFile, SystemDisk, SystemFile, open_above, save_at};
+use exh_saving::Saved;
+use exh_stream::{Console, Meter, Unit, Work};
+use exh_system::draw_stamp;
+use exh_ward::new_wards;
+use std::fs;
+use std::fs::{File, OpenOptions};
+use std::io::{ErrorKind, Stderr};
+
+/// Makes a page file of version 3 without pairs at a path at which nothing is, or an empty file. Where it fails an empty
+/// file may be left.
+///
+/// `Settings`: these are no file's. `Exists`: something is there. Others: it isn't made, as they say.
+pub(crate) fn make(rt: &HostRuntime, path: &str, settings: Settings) -> Result<(), StoreError> {
+    let draft = empty_draft(rt, settings)?;
+    let claimed = claim(rt, path)?;
+    let seen = SystemDisk::new(rt).seen(path, claimed)?;
+    match save_draft(rt, path, Some(&seen), draft) {
+        Ok(_) => Ok(()),
+        Err(StoreError::Changed) => Err(StoreError::Exists),
+        Err(fault) => Err(fault),
+    }
+}
+
+// The draft of a file without pairs.
+fn empty_draft(rt: &HostRuntime, settings: Settings) -> Result<Draft<FileStore>, StoreError> {
+    if !settings.are_in_range() {
+        return Err(StoreError::Settings);
+    }
+    let wards = new_wards(rt.alloc(), &MAKER, settings)?;
+    let Ok(opened) = Opened::from_wards(settings, wards) else {
+        return Err(StoreError::Settings);
+    };
+    let stamps = Stamps {
+        own: draw_stamp(rt)?,
+        before: draw_stamp(rt)?,
+    };
+    Ok(Draft::anew(rt.alloc(), opened, stamps)?)
+}
+
+// An empty file at a path, which of several processes one alone replaces.
+fn claim(rt: &HostRuntime, path: &str) -> Result<File, StoreError> {
+    let mut options = OpenOptions::new();
+    options.write(true).create_new(true);
+    match options.open(rt, path) {
+        Ok(made) => drop(made),
+        Err(error) if error.kind() == ErrorKind::AlreadyExists => see_empty(rt, path)?,
+        Err(error) => return Err(StoreError::from(error)),
+    }
+    Ok(open_above(rt, path)?)
+}
+
+// Sees that what is there is an empty file.
+fn see_empty(rt: &HostRuntime, path: &str) -> Result<(), StoreError> {
+    let about = fs::metadata(rt, path)?;
+    if about.is_file() && about.len() == 0 {
+        Ok(())
+    } else {
+        Err(StoreError::Exists)
+    }
+}
+
+/// Saves a draft as the file of a path, in place of the one that was seen there. The answer has the lock of the new file.
+///
+/// Errors: what was there is as before.
+pub(crate) fn save_draft(
+    rt: &HostRuntime,
+    path: &str,
+    seen: Option<&OpenedFile>,
+    draft: Draft<FileStore>,
+) -> Result<Saved<SystemFile>, StoreError> {
+    let work = Work {
+        unit: Unit::BlocksWritten,
+        of: None,
+    };
+    let meter: Meter<Console<'_, HostRuntime, Stderr>> = Meter::new(None, work);
+    let mut disk = SystemDisk::new(rt);
+    let (saved, _) = save_at(rt.alloc(), &mut disk, path, seen, draft, &meter);
+    Ok(saved?)
+}

@@ -1,0 +1,250 @@
+//! A page file that is opened whole, and worked on in memory.
+ghost use Rattle.std.specs.Prelude.{◌≡◌, IfOk, OnErr, OnOk, length};
+ghost use Rattle.std.specs.FinMap.{from_entries};
+ghost use Rattle.exh_file.specs.FileChange.{HasMap};
+ghost use Rattle.exh_file.specs.Opened.{settings_in};
+ghost use Rattle.exh_page.specs.KeyMap.{KeyMap};
+ghost use Rattle.exhash.specs.FileMap.{IsGot, IsPut, IsPutNew, IsRemoved, IsReplaced, IsSwap, KeepsMap};
+ghost use Rattle.exhash.specs.Pairs.{AreOnce, pairs_in};
+
+use crate::held_file::HeldFile;
+use crate::new_file::make;
+use crate::reading::read_still;
+use crate::sizes::{key_of, value_of};
+use crate::{FileMap, Pairs, Put, PutNew, Settings, StoreError, Swap};
+use exh_frames::FileStore;
+use exh_page::Value;
+use exh_system::WAIT;
+
+/// A page file that is opened whole: calls are answered in memory, and `commit` saves what they changed, all of it or
+/// nothing. A store that is let go without a commit leaves the file as it was.
+#[derive(Drop)]
+pub struct Store<'r> {
+    rt: &'r HostRuntime,
+    map: FileMap<FileStore>,
+    // The file, where it is held.
+    file: Option<HeldFile>,
+    is_changed: bool,
+}
+
+impl<'r> Store<'r> {
+    /// Makes a page file of version 3 at a path, and opens it.
+    ///
+    /// `Exists`: something is there already that isn't empty. `Settings`: the settings are no file's. Others: it isn't made
+    /// or opened, as they say. Then an empty file may be left.
+    pub fn create(
+        rt: &'r HostRuntime,
+        path: &str,
+        settings: Settings,
+    ) -> Result<Store<'r>, StoreError> {
+        make(rt, path, settings)?;
+        Store::open(rt, path)
+    }
+
+    /// Opens the page file of a path, of any version, and holds its writers' lock until the store is let go. It waits five
+    /// seconds for the lock. A change that another process didn't finish is recovered before.
+    ///
+    /// `Absent`: nothing is there, or an empty file. `Busy`: another process has the lock. Others: it isn't opened, as they
+    /// say.
+    pub fn open(rt: &'r HostRuntime, path: &str) -> Result<Store<'r>, StoreError> {
+        Store::open_within(rt, path, WAIT)
+    }
+
+    /// The same, and waits so many seconds for the lock.
+    pub fn open_within(
+        rt: &'r HostRuntime,
+        path: &str,
+        seconds: u64,
+    ) -> Result<Store<'r>, StoreError> {
+        let (file, opened) = HeldFile::open(rt, path, seconds)?;
+        Ok(Store {
+            rt,
+            map: FileMap::new(opened),
+            file: Some(file),
+            is_changed: false,
+        })
+    }
+
+    /// Opens the page file of a path, or makes one of these settings where nothing is there. The settings of a file that is
+    /// there are its own.
+    ///
+    /// Errors: as of `open` and `create`.
+    pub fn open_or_create(
+        rt: &'r HostRuntime,
+        path: &str,
+        settings: Settings,
+    ) -> Result<Store<'r>, StoreError> {
+        match Store::open(rt, path) {
+            Err(StoreError::Absent) => match Store::create(rt, path, settings) {
+                Err(StoreError::Exists) => Store::open(rt, path),
+                made => made,
+            },
+            opened => opened,
+        }
+    }
+
+    /// Opens one state of the page file of a path to be read, also beside others that change it, and holds nothing of it.
+    /// What is changed of the store isn't committed.
+    ///
+    /// Errors: as of `open`.
+    pub fn open_read(rt: &'r HostRuntime, path: &str) -> Result<Store<'r>, StoreError> {
+        let opened = read_still(rt, path)?;
+        Ok(Store {
+            rt,
+            map: FileMap::new(opened),
+            file: None,
+            is_changed: false,
+        })
+    }
+
+    /// The settings of the file.
+    pub fn settings(&self) -> Settings
+        ensures { result ≡ settings_in self.now.map }
+    {
+        self.map.settings()
+    }
+
+    /// The value of a key, or `None` where it has none.
+    ///
+    /// `EmptyKey`, `KeyTooLong`: it is no key. `Memory`: a growth was refused. The pairs are as before.
+    pub fn get(&mut self, key: &[u8]) -> Result<Option<Value>, StoreError>
+        ensures got { IfOk result (λ answer. IsGot self.old.map key.now answer self.new.map) }
+        ensures err { OnErr result (KeepsMap self.old.map self.new.map) }
+        ensures settings { settings_in self.new.map ≡ settings_in self.old.map }
+    {
+        let key = key_of(key)?;
+        Ok(self.map.get(&key)?)
+    }
+
+    /// Gives a key a value, new or in place of another.
+    ///
+    /// `EmptyKey`, `KeyTooLong`, `ValueTooLong`: it is no key or no value. `Memory`: a growth was refused. The pairs are as
+    /// before.
+    pub fn put(&mut self, key: &[u8], value: &[u8]) -> Result<Put, StoreError>
+        ensures put { IfOk result (λ answer. IsPut self.old.map key.now value.now answer self.new.map) }
+        ensures err { OnErr result (KeepsMap self.old.map self.new.map) }
+        ensures settings { settings_in self.new.map ≡ settings_in self.old.map }
+    {
+        let key = key_of(key)?;
+        let value = value_of(value)?;
+        let put = self.map.put(&key, &value)?;
+        self.is_changed = true;
+        Ok(put)
+    }
+
+    /// Gives a key a value, where it has none.
+    ///
+    /// Errors: as of `put`.
+    pub fn put_new(&mut self, key: &[u8], value: &[u8]) -> Result<PutNew, StoreError>
+        ensures put { IfOk result (λ answer. IsPutNew self.old.map key.now value.now answer self.new.map) }
+        ensures err { OnErr result (KeepsMap self.old.map self.new.map) }
+        ensures settings { settings_in self.new.map ≡ settings_in self.old.map }
+    {
+        let key = key_of(key)?;
+        let value = value_of(value)?;
+        let put = self.map.put_new(&key, &value)?;
+        self.is_changed = true;
+        Ok(put)
+    }
+
+    /// Gives a key a value in place of the one that it has, which is the answer; `None` where it has none, and gets none.
+    ///
+    /// Errors: as of `put`.
+    pub fn replace(&mut self, key: &[u8], value: &[u8]) -> Result<Option<Value>, StoreError>
+        ensures replaced { IfOk result (λ answer. IsReplaced self.old.map key.now value.now answer self.new.map) }
+        ensures err { OnErr result (KeepsMap self.old.map self.new.map) }
+        ensures settings { settings_in self.new.map ≡ settings_in self.old.map }
+    {
+        let key = key_of(key)?;
+        let value = value_of(value)?;
+        let replaced = self.map.replace(&key, &value)?;
+        self.is_changed = true;
+        Ok(replaced)
+    }
+
+    /// Takes a key and its value out, which is the answer; `None` where it has none.
+    ///
+    /// Errors: as of `get`.
+    pub fn remove(&mut self, key: &[u8]) -> Result<Option<Value>, StoreError>
+        ensures removed { IfOk result (λ answer. IsRemoved self.old.map key.now answer self.new.map) }
+        ensures err { OnErr result (KeepsMap self.old.map self.new.map) }
+        ensures settings { settings_in self.new.map ≡ settings_in self.old.map }
+    {
+        let key = key_of(key)?;
+        let removed = self.map.remove(&key)?;
+        self.is_changed = true;
+        Ok(removed)
+    }
+
+    /// Gives a key the new value, where it has the old one.
+    ///
+    /// Errors: as of `put`.
+    pub fn swap(&mut self, key: &[u8], old: &[u8], new: &[u8]) -> Result<Swap, StoreError>
+        ensures swapped { IfOk result (λ answer. IsSwap self.old.map key.now old.now new.now answer self.new.map) }
+        ensures err { OnErr result (KeepsMap self.old.map self.new.map) }
+        ensures settings { settings_in self.new.map ≡ settings_in self.old.map }
+    {
+        let key = key_of(key)?;
+        let old = value_of(old)?;
+        let new = value_of(new)?;
+        let swap = self.map.swap(&key, &old, &new)?;
+        self.is_changed = true;
+        Ok(swap)
+    }
+
+    /// How many pairs there are. It goes over all of them, and takes memory for them.
+    ///
+    /// `Memory`: a growth was refused.
+    pub fn len(&mut self) -> Result<usize, StoreError>
+        ensures len { IfOk result (λ count. count ≡ length (pairs_in self.old.map.wards)) }
+        ensures same { OnOk result (self.new.map ≡ self.old.map) }
+        ensures err { OnErr result (KeepsMap self.old.map self.new.map) }
+        ensures settings { settings_in self.new.map ≡ settings_in self.old.map }
+    {
+        Ok(self.pairs()?.len())
+    }
+
+    /// The pairs, each key once, in the order of the pages. It takes memory for them.
+    ///
+    /// `Memory`: a growth was refused.
+    pub fn pairs(&mut self) -> Result<Pairs, StoreError>
+        ensures pairs { IfOk result (λ pairs. pairs ≡ pairs_in self.old.map.wards) }
+        ensures once { IfOk result (λ pairs. AreOnce pairs) }
+        ensures map { IfOk result (λ pairs. (whole : KeyMap) → HasMap self.old.map whole → from_entries pairs ≡ whole) }
+        ensures same { OnOk result (self.new.map ≡ self.old.map) }
+        ensures err { OnErr result (KeepsMap self.old.map self.new.map) }
+        ensures settings { settings_in self.new.map ≡ settings_in self.old.map }
+    {
+        Ok(self.map.pairs(self.rt.alloc())?)
+    }
+
+    /// Saves what was changed since the last commit, if something was: of a file of version 3 the blocks that differ, of an
+    /// older one the whole file. On `Ok` it is on the disk. A crash leaves all of it or nothing.
+    ///
+    /// `ReadOnly`: the store was opened to be read. `Vanished`, `Changed`: the file is no longer the one that was opened.
+    /// `Unsure`: the change is saved or not, which the next open tells; this store commits no more. `Unheld`: it is saved,
+    /// but this store commits no more. Others: nothing was saved, as they say. The pairs of the store are as before in each
+    /// case.
+    pub fn commit(&mut self) -> Result<(), StoreError>
+        ensures kept { KeepsMap self.old.map self.new.map }
+        ensures settings { settings_in self.new.map ≡ settings_in self.old.map }
+    {
+        let Some(file) = &mut self.file else {
+            return Err(StoreError::ReadOnly);
+        };
+        if !self.is_changed {
+            return Ok(());
+        }
+        file.save(self.rt, &mut self.map)?;
+        self.is_changed = false;
+        Ok(())
+    }
+
+    /// Commits, and lets the file go.
+    ///
+    /// Errors: as of `commit`. What wasn't saved is lost then.
+    pub fn close(self) -> Result<(), StoreError> {
+        let mut store = self;
+        store.commit()
+    }
+}
