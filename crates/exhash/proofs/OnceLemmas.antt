@@ -1,9 +1,16 @@
 -- No key stands twice among the pairs of wards, each of which is sound.
-use Rattle.std.proofs.Common.{◌≡◌, ◌≢◌, ◌∙◌, ◌+◌, ℕ, zero, suc, ◌<◌, ◌≤◌, ◌^◌, Bool, List, [], ◌∷◌, ◌++◌, length, map, slice_get, Some, refl, sym, ap, subst, arith}
+use Rattle.std.proofs.Common.{nat_cmp, ◌≡◌, ◌≢◌, ◌∙◌, ◌+◌, ℕ, zero, suc, ◌<◌, ◌≤◌, ◌^◌, Bool, List, [], ◌∷◌, ◌++◌, length, map, slice_get, None, Some, false, cond, refl, sym, ap, subst, arith}
 use Rattle.std.specs.Prelude.{⊤}
 use Rattle.std.specs.List.{AllByRecursion, flat_map}
 use Rattle.std.specs.declared.cmp.Ordering.TheVariants.{Equal, Less}
-use Rattle.std.proofs.lemmas.Cmp.{tied_itself}
+use Rattle.std.specs.FinMap as fin
+use Rattle.std.specs.Ordering.{eq_by_cmp}
+use Rattle.std.specs.Option.{is_some}
+use Rattle.std.specs.Cmp.Lexicographic.{slice_cmp}
+use Rattle.std.proofs.lemmas.Bool.{false_from_ne_true}
+use Rattle.std.proofs.lemmas.Cmp.{nat_list_cmp_total, tied_itself}
+use Rattle.std.proofs.lemmas.Map.Lookups.{exact_bytes}
+use Rattle.exh_prefix.specs.PrefixListLemmas.{is_equal}
 use Rattle.std.proofs.lemmas.List.{length-take, map-append}
 use Rattle.std.proofs.lemmas.Option.{slice_get_within}
 use Rattle.exh_prefix.specs.BitLemmas.{length-bits_of, number_of-bits_of}
@@ -15,7 +22,7 @@ use Rattle.exh_prefix.specs.Prefix.{Begins}
 use Rattle.exh_prefix.specs.PrefixLemmas.{front_of_front}
 use Rattle.exh_keyer.specs.Pseudokey.{any_pseudokey}
 use Rattle.exh_keyer.specs.declared.any_keyer.AnyKeyer.{AnyKeyer}
-use Rattle.exh_page.specs.KeyMap.{pair_of}
+use Rattle.exh_page.specs.KeyMap.{KeyMap, pair_of}
 use Rattle.exh_page.specs.Page.{records_of, with_records}
 use Rattle.exh_page.specs.Place.{Place, place_cmp, place_of}
 use Rattle.exh_page.specs.Records.{IsRising}
@@ -33,6 +40,7 @@ use Rattle.exh_file.specs.Opened.{AreWardsOf, IsWardOf, OpenedState}
 use Rattle.exh_file.specs.Saved.{AreSound, pages_of_all}
 use Rattle.exhash.specs.Pairs.{AreOnce, pairs_in}
 use Rattle.exhash.proofs.CommitLemmas.{all_pairs}
+use Rattle.exhash.proofs.WholeMap.{found}
 
 -- ---- lists of pairs
 
@@ -214,3 +222,26 @@ module _ (file : OpenedState) (are : AreWardsOf file) (sound : AreSound file.war
 
   pub file_once : AreOnce (pairs_in file.wards)
   file_once = subst AreOnce (all_pairs file.wards) (wards_once file.cap file.ward_bits (any_pseudokey file.keyer) (pages_of_all file.wards) ward_legal)
+
+-- ---- how many keys they have
+
+gone : (key : List ℕ) (pairs : List (List ℕ × List ℕ)) → AllByRecursion (λ other. other.0 ≢ key) pairs → found key pairs ≡ None
+gone key [] else = refl
+gone key (pair ∷ pairs) else =
+    let misses : eq_by_cmp (slice_cmp nat_cmp) key pair.0 ≡ false = false_from_ne_true _ (λ tied. else.0 (sym (exact_bytes key pair.0 (is_equal (slice_cmp nat_cmp key pair.0) tied)))) in
+    ap (λ b. cond b (Some pair.1) (found key pairs)) misses ∙ gone key pairs else.1
+
+abbrev all_of_pairs : List (List ℕ × List ℕ) → KeyMap
+all_of_pairs pairs = fin.from_entries pairs
+
+pub once_len : (pairs : List (List ℕ × List ℕ)) → AreOnce pairs → fin.len (all_of_pairs pairs) ≡ length pairs
+once_len [] once = fin.len-empty (slice_cmp nat_cmp) (List ℕ)
+once_len (pair ∷ pairs) once =
+    let m = all_of_pairs pairs in
+    let absent : fin.get m pair.0 ≡ None = fin.get-from_entries nat_list_cmp_total pairs pair.0 ∙ gone pair.0 pairs once.0 in
+    let rest = once_len pairs once.1 in
+    let grown : fin.len (fin.insert m pair.0 pair.1) ≡ fin.len m + 1 = fin.len-insert nat_list_cmp_total m pair.0 pair.1 ∙ ap (λ found. cond (is_some found) (fin.len m) (fin.len m + 1)) absent in
+    omega (arith, grown, rest)
+
+pub counted : (pairs : List (List ℕ × List ℕ)) (count : ℕ) (whole : KeyMap) → count ≡ length pairs → AreOnce pairs → all_of_pairs pairs ≡ whole → count ≡ fin.len whole
+counted pairs count whole is once same = is ∙ sym (once_len pairs once) ∙ ap (λ (m : KeyMap). fin.len m) same

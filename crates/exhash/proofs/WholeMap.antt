@@ -21,7 +21,7 @@ use Rattle.exhash.specs.Pairs.{pairs_in, pairs_of}
 -- ---- what is found in lists of pairs
 
 module _ (key : List ℕ) where
-  abbrev found : List (List ℕ × List ℕ) → Option (List ℕ)
+  abbrev pub found : List (List ℕ × List ℕ) → Option (List ℕ)
   found pairs = fin.find (slice_cmp nat_cmp) key pairs
 
   passed : (b : Bool) (value : List ℕ) (rest more behind : Option (List ℕ)) → cond b (Some value) rest ≡ None → (rest ≡ None → more ≡ behind) → cond b (Some value) more ≡ behind
