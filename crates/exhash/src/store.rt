@@ -230,7 +230,7 @@ impl<'r> Store<'r> {
     /// older one the whole file. On `Ok` it is on the disk. A crash leaves all of it or nothing.
     ///
     /// `ReadOnly`: the store was opened to be read. `Vanished`, `Changed`: the file is no longer the one that was opened.
-    /// `Unsure`: the change is saved or not, which the next open tells; this store commits no more. `Unheld`: it is saved,
+    /// `Unsure`: the change is saved or not, which the next open tells. `Unheld`: it is saved,
     /// but this store commits no more. Others: nothing was saved, as they say. The pairs of the store are as before in each
     /// case.
     pub fn commit(&mut self) -> Result<(), StoreError>
