@@ -44,7 +44,7 @@ module _ (key : List ℕ) where
   none_in [] each = refl
   none_in (ward ∷ wards) each = found_behind (pairs_of ward.pages) (pairs_in wards) (each 0 ward refl) ∙ none_in wards (λ number one there. each (suc number) one there)
 
-  one_in : (wards : List (WardState AnyKeyer)) (at : ℕ) (ward : WardState AnyKeyer) → slice_get wards at ≡ Some ward
+  pub one_in : (wards : List (WardState AnyKeyer)) (at : ℕ) (ward : WardState AnyKeyer) → slice_get wards at ≡ Some ward
       → ((number : ℕ) (one : WardState AnyKeyer) → slice_get wards number ≡ Some one → (number ≡ at → ⊥) → found (pairs_of one.pages) ≡ None) → found (pairs_in wards) ≡ found (pairs_of ward.pages)
   one_in [] at ward there others = cc
   one_in (first ∷ wards) zero ward there others =

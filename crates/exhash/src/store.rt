@@ -218,6 +218,7 @@ impl<'r> Store<'r> {
     pub fn pairs(&mut self) -> Result<Pairs, StoreError>
         ensures pairs { IfOk result (λ pairs. pairs ≡ pairs_in self.old.map.wards) }
         ensures once { IfOk result (λ pairs. AreOnce pairs) }
+        ensures has { IfOk result (λ pairs. HasMap self.old.map (from_entries pairs)) }
         ensures map { IfOk result (λ pairs. (whole : KeyMap) → HasMap self.old.map whole → from_entries pairs ≡ whole) }
         ensures same { OnOk result (self.new.map ≡ self.old.map) }
         ensures err { OnErr result (KeepsMap self.old.map self.new.map) }
