@@ -1,11 +1,18 @@
 -- No key stands twice among the pairs of wards, each of which is sound.
-use Rattle.std.proofs.Common.{◌≡◌, ◌≢◌, ◌∙◌, ◌+◌, ℕ, zero, suc, ◌<◌, ◌≤◌, ◌^◌, Bool, List, [], ◌∷◌, ◌++◌, length, map, slice_get, Some, refl, sym, ap, subst, arith}
+use Rattle.std.proofs.Common.{nat_cmp, ◌≡◌, ◌≢◌, ◌∙◌, ◌+◌, ℕ, zero, suc, ◌<◌, ◌≤◌, ◌^◌, Bool, List, [], ◌∷◌, ◌++◌, length, map, slice_get, None, Some, false, cond, refl, sym, ap, subst, arith}
 use Rattle.std.specs.Prelude.{⊤}
 use Rattle.std.specs.List.{AllByRecursion, flat_map}
 use Rattle.std.specs.declared.cmp.Ordering.TheVariants.{Equal, Less}
-use Rattle.std.proofs.lemmas.Cmp.{tied_itself}
-use Rattle.std.proofs.lemmas.List.{length-take, map-append}
-use Rattle.std.proofs.lemmas.Option.{slice_get_within}
+use Rattle.std.specs.FinMap as fin
+use Rattle.std.specs.Ordering.{eq_by_cmp}
+use Rattle.std.specs.Option.{is_some, option_map}
+use Rattle.std.specs.Cmp.Lexicographic.{slice_cmp}
+use Rattle.std.proofs.lemmas.Bool.{false_from_ne_true}
+use Rattle.std.proofs.lemmas.Cmp.{nat_list_cmp_total, tied_itself}
+use Rattle.std.proofs.lemmas.Map.Lookups.{exact_bytes}
+use Rattle.exh_prefix.specs.PrefixListLemmas.{is_equal}
+use Rattle.std.proofs.lemmas.List.{length-map, length-take, map-append}
+use Rattle.std.proofs.lemmas.Option.{slice_get-map, slice_get_within}
 use Rattle.exh_prefix.specs.BitLemmas.{length-bits_of, number_of-bits_of}
 use Rattle.exh_prefix.specs.Bits.{word_bits}
 use Rattle.exh_prefix.specs.Leading.{leading, ward_of, ward_prefix}
@@ -15,7 +22,7 @@ use Rattle.exh_prefix.specs.Prefix.{Begins}
 use Rattle.exh_prefix.specs.PrefixLemmas.{front_of_front}
 use Rattle.exh_keyer.specs.Pseudokey.{any_pseudokey}
 use Rattle.exh_keyer.specs.declared.any_keyer.AnyKeyer.{AnyKeyer}
-use Rattle.exh_page.specs.KeyMap.{pair_of}
+use Rattle.exh_page.specs.KeyMap.{KeyMap, pair_of}
 use Rattle.exh_page.specs.Page.{records_of, with_records}
 use Rattle.exh_page.specs.Place.{Place, place_cmp, place_of}
 use Rattle.exh_page.specs.Records.{IsRising}
@@ -29,10 +36,13 @@ use Rattle.exh_legal.specs.LegalPlaceLemmas.{home_bare}
 use Rattle.exh_legal.specs.Pages.{IsAt, IsHome, IsLegal, IsLegalPage, IsWithin}
 use Rattle.exh_format.specs.PageFile.{pages_of}
 use Rattle.exh_ward.specs.WardState.{WardState, own_prefix}
+use Rattle.exh_file.specs.FileChange.{HasMap, IsPart, maps_in}
 use Rattle.exh_file.specs.Opened.{AreWardsOf, IsWardOf, OpenedState}
 use Rattle.exh_file.specs.Saved.{AreSound, pages_of_all}
-use Rattle.exhash.specs.Pairs.{AreOnce, pairs_in}
+use Rattle.exhash.specs.Pairs.{AreOnce, pairs_in, pairs_of}
 use Rattle.exhash.proofs.CommitLemmas.{all_pairs}
+use Rattle.exhash.proofs.LeftLemmas.{own_map}
+use Rattle.exhash.proofs.WholeMap.{found, one_in}
 
 -- ---- lists of pairs
 
@@ -214,3 +224,80 @@ module _ (file : OpenedState) (are : AreWardsOf file) (sound : AreSound file.war
 
   pub file_once : AreOnce (pairs_in file.wards)
   file_once = subst AreOnce (all_pairs file.wards) (wards_once file.cap file.ward_bits (any_pseudokey file.keyer) (pages_of_all file.wards) ward_legal)
+
+-- ---- how many keys they have
+
+gone : (key : List ℕ) (pairs : List (List ℕ × List ℕ)) → AllByRecursion (λ other. other.0 ≢ key) pairs → found key pairs ≡ None
+gone key [] else = refl
+gone key (pair ∷ pairs) else =
+    let misses : eq_by_cmp (slice_cmp nat_cmp) key pair.0 ≡ false = false_from_ne_true _ (λ tied. else.0 (sym (exact_bytes key pair.0 (is_equal (slice_cmp nat_cmp key pair.0) tied)))) in
+    ap (λ b. cond b (Some pair.1) (found key pairs)) misses ∙ gone key pairs else.1
+
+abbrev all_of_pairs : List (List ℕ × List ℕ) → KeyMap
+all_of_pairs pairs = fin.from_entries pairs
+
+pub once_len : (pairs : List (List ℕ × List ℕ)) → AreOnce pairs → fin.len (all_of_pairs pairs) ≡ length pairs
+once_len [] once = fin.len-empty (slice_cmp nat_cmp) (List ℕ)
+once_len (pair ∷ pairs) once =
+    let m = all_of_pairs pairs in
+    let absent : fin.get m pair.0 ≡ None = fin.get-from_entries nat_list_cmp_total pairs pair.0 ∙ gone pair.0 pairs once.0 in
+    let rest = once_len pairs once.1 in
+    let grown : fin.len (fin.insert m pair.0 pair.1) ≡ fin.len m + 1 = fin.len-insert nat_list_cmp_total m pair.0 pair.1 ∙ ap (λ found. cond (is_some found) (fin.len m) (fin.len m + 1)) absent in
+    omega (arith, grown, rest)
+
+pub counted : (pairs : List (List ℕ × List ℕ)) (count : ℕ) (whole : KeyMap) → count ≡ length pairs → AreOnce pairs → all_of_pairs pairs ≡ whole → count ≡ fin.len whole
+counted pairs count whole is once same = is ∙ sym (once_len pairs once) ∙ ap (λ (m : KeyMap). fin.len m) same
+
+-- ---- the map that the wards have together
+
+module _ (cap bits number : ℕ) (pseudo : List ℕ → ℕ) where
+  -- each record of a ward's pages has a key of the ward
+  keys_of : (pages : List Page) → AllByRecursion (IsOf cap bits pseudo number) pages → AllByRecursion (IsLegalPage cap pseudo) pages → AllByRecursion (λ r. ward_of bits (pseudo r.key) ≡ number) (flat_map records_of pages)
+  keys_of [] own legal = tt
+  keys_of (page ∷ pages) own legal =
+      AllByRecursion-append (λ r. ward_of bits (pseudo r.key) ≡ number) (records_of page) (flat_map records_of pages)
+      (AllByRecursion-weaker (λ r. IsHome page (pseudo r.key)) (λ r. ward_of bits (pseudo r.key) ≡ number) (λ r home. own.0 (pseudo r.key) home) (records_of page) (own_home cap bits pseudo page legal.0))
+      (keys_of pages own.1 legal.1)
+
+  -- so a key of another ward isn't there
+  none_there : (pages : List Page) (key : List ℕ) → number < 2 ^ bits → IsLegal cap pseudo (ward_prefix bits number) pages → (ward_of bits (pseudo key) ≡ number → ⊥) → found key (map pair_of (flat_map records_of pages)) ≡ None
+  none_there pages key small legal else =
+      let good = ward_good cap bits pseudo number pages small legal in
+      gone key (map pair_of (flat_map records_of pages))
+      (of_records (λ other. other.0 ≢ key) (flat_map records_of pages)
+      (AllByRecursion-weaker (λ r. ward_of bits (pseudo r.key) ≡ number) (λ r. r.key ≢ key) (λ r is same. else (subst (λ (k : List ℕ). ward_of bits (pseudo k) ≡ number) same is)) (flat_map records_of pages) (keys_of pages good.own good.legal)))
+
+module _ (file : OpenedState) (are : AreWardsOf file) (sound : AreSound file.wards) where
+  maps_there : (wards : List (WardState AnyKeyer)) (number : ℕ) (own : KeyMap) → slice_get (map own_map wards) number ≡ Some own → (ward : WardState AnyKeyer) × (slice_get wards number ≡ Some ward) × (own_map ward ≡ own)
+  maps_there [] number own there = cc
+  maps_there (ward ∷ wards) zero own there = let same : own_map ward ≡ own = cc in (ward, refl, same)
+  maps_there (ward ∷ wards) (suc number) own there = maps_there wards number own there
+
+  pages_at : (wards : List (WardState AnyKeyer)) (number : ℕ) (ward : WardState AnyKeyer) → slice_get wards number ≡ Some ward → slice_get (pages_of_all wards) number ≡ Some ward.pages
+  pages_at wards number ward there = slice_get-map (λ (w : WardState AnyKeyer). w.pages) wards number ∙ ap (option_map (λ (w : WardState AnyKeyer). w.pages)) there
+
+  elsewhere : (number : ℕ) (ward : WardState AnyKeyer) → slice_get file.wards number ≡ Some ward → (key : List ℕ) → (ward_of file.ward_bits (any_pseudokey file.keyer key) ≡ number → ⊥) → found key (pairs_of ward.pages) ≡ None
+  elsewhere number ward there key else =
+      let is = ward_legal file are sound number ward.pages (pages_at file.wards number ward there) in
+      none_there file.cap file.ward_bits number (any_pseudokey file.keyer) ward.pages key is.0 is.1 else
+
+  in_own : (ward : WardState AnyKeyer) (own : KeyMap) (key : List ℕ) → own_map ward ≡ own → fin.get own key ≡ found key (pairs_of ward.pages)
+  in_own ward own key same = ap (λ (m : KeyMap). fin.get m key) (sym same) ∙ fin.get-from_entries nat_list_cmp_total (pairs_of ward.pages) key
+
+  in_all : (number : ℕ) (ward : WardState AnyKeyer) (key : List ℕ) → slice_get file.wards number ≡ Some ward → ward_of file.ward_bits (any_pseudokey file.keyer key) ≡ number → found key (pairs_of ward.pages) ≡ fin.get (all_of_pairs (pairs_in file.wards)) key
+  in_all number ward key there here =
+      sym (one_in key file.wards number ward there (λ other one is else. elsewhere other one is key (λ same. else (sym same ∙ here))))
+      ∙ sym (fin.get-from_entries nat_list_cmp_total (pairs_in file.wards) key)
+
+  part_of : (number : ℕ) (own : KeyMap) → slice_get (maps_in file) number ≡ Some own → IsPart file.ward_bits (any_pseudokey file.keyer) (all_of_pairs (pairs_in file.wards)) number own
+  part_of number own there =
+      let found_ward = maps_there file.wards number own there in
+      let ward = found_ward.0 in
+      record {
+        own_keys = λ key here. in_own ward own key found_ward.2 ∙ in_all number ward key found_ward.1 here;
+        no_others = λ key else. in_own ward own key found_ward.2 ∙ elsewhere number ward found_ward.1 key else;
+      }
+
+  -- the wards have one map together, which is that of all their pairs
+  pub has_all : HasMap file (all_of_pairs (pairs_in file.wards))
+  has_all = record { count = length-map file.wards own_map ∙ are.count; each = part_of }

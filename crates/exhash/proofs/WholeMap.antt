@@ -21,7 +21,7 @@ use Rattle.exhash.specs.Pairs.{pairs_in, pairs_of}
 -- ---- what is found in lists of pairs
 
 module _ (key : List ℕ) where
-  abbrev found : List (List ℕ × List ℕ) → Option (List ℕ)
+  abbrev pub found : List (List ℕ × List ℕ) → Option (List ℕ)
   found pairs = fin.find (slice_cmp nat_cmp) key pairs
 
   passed : (b : Bool) (value : List ℕ) (rest more behind : Option (List ℕ)) → cond b (Some value) rest ≡ None → (rest ≡ None → more ≡ behind) → cond b (Some value) more ≡ behind
@@ -44,7 +44,7 @@ module _ (key : List ℕ) where
   none_in [] each = refl
   none_in (ward ∷ wards) each = found_behind (pairs_of ward.pages) (pairs_in wards) (each 0 ward refl) ∙ none_in wards (λ number one there. each (suc number) one there)
 
-  one_in : (wards : List (WardState AnyKeyer)) (at : ℕ) (ward : WardState AnyKeyer) → slice_get wards at ≡ Some ward
+  pub one_in : (wards : List (WardState AnyKeyer)) (at : ℕ) (ward : WardState AnyKeyer) → slice_get wards at ≡ Some ward
       → ((number : ℕ) (one : WardState AnyKeyer) → slice_get wards number ≡ Some one → (number ≡ at → ⊥) → found (pairs_of one.pages) ≡ None) → found (pairs_in wards) ≡ found (pairs_of ward.pages)
   one_in [] at ward there others = cc
   one_in (first ∷ wards) zero ward there others =

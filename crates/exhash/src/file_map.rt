@@ -197,6 +197,7 @@ impl<P: Pages + Drop> FileMap<P> {
     pub fn pairs(&mut self, alloc: Global) -> Result<Pairs, WardFault>
         ensures pairs { IfOk result (λ pairs. pairs ≡ pairs_in self.old.wards) }
         ensures once { IfOk result (λ pairs. AreOnce pairs) }
+        ensures has { IfOk result (λ pairs. HasMap self.old (from_entries pairs)) }
         ensures map { IfOk result (λ pairs. (whole : KeyMap) → HasMap self.old whole → from_entries pairs ≡ whole) }
         ensures same { OnOk result (self.new ≡ self.old) }
         ensures err { OnErr result (KeepsMap self.old self.new) }

@@ -20,6 +20,8 @@ mod change_at;
 mod copying;
 mod direct;
 mod disk_commit;
+#[cfg(test)]
+mod disk_examples;
 mod drafting;
 #[cfg(test)]
 mod examples;

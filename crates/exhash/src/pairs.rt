@@ -1,8 +1,8 @@
 //! The pairs of a page file's map, page by page.
 ghost use Rattle.std.specs.Prelude.{◌≡◌, ◌++◌, IfOk, OnErr, OnOk, length, take};
+ghost use Rattle.std.specs.FinMap.{from_entries};
 ghost use Rattle.exh_file.specs.FileChange.{HasMap};
 ghost use Rattle.exh_file.specs.Opened.{AreWardsOf, in_file, settings_in};
-ghost use Rattle.exh_page.specs.KeyMap.{KeyMap};
 ghost use Rattle.exhash.specs.FileMap.{KeepsMap};
 ghost use Rattle.exhash.specs.Pairs.{AreOnce, pairs_in};
 
@@ -56,6 +56,7 @@ pub(crate) fn pairs_of<P: Pages + Drop>(
     requires { AreWardsOf (in_file settings wards.old.items) }
     ensures pairs { IfOk result (λ pairs. pairs ≡ pairs_in wards.old.items) }
     ensures once { OnOk result (AreOnce (pairs_in wards.old.items)) }
+    ensures has { OnOk result (HasMap (in_file settings wards.old.items) (from_entries (pairs_in wards.old.items))) }
     ensures ok { OnOk result (wards.new.items ≡ wards.old.items) }
     ensures err { OnErr result (KeepsMap (in_file settings wards.old.items) (in_file settings wards.new.items)) }
     ensures wards { AreWardsOf (in_file settings wards.new.items) }

@@ -1,5 +1,6 @@
 //! Keys and values of byte slices.
-ghost use Rattle.std.specs.Prelude.{◌≡◌, IfOk};
+ghost use Rattle.std.specs.Prelude.{◌≡◌, IfErr, IfOk};
+ghost use Rattle.exhash.specs.CallFault.{IsKeyFault, IsValueFault};
 
 use crate::StoreError;
 use exh_page::{Key, Value};
@@ -8,7 +9,8 @@ use exh_page::{Key, Value};
 ///
 /// `EmptyKey`: there are none. `KeyTooLong`: there are more than 64.
 pub(crate) fn key_of(bytes: &[u8]) -> Result<Key, StoreError>
-    ensures { IfOk result (λ key. key ≡ bytes.now) }
+    ensures bytes { IfOk result (λ key. key ≡ bytes.now) }
+    ensures refused { IfErr result (IsKeyFault bytes.now) }
 {
     match Key::from_bytes(bytes) {
         Ok(key) => Ok(key),
@@ -23,7 +25,8 @@ pub(crate) fn key_of(bytes: &[u8]) -> Result<Key, StoreError>
 ///
 /// `ValueTooLong`: there are more than 128.
 pub(crate) fn value_of(bytes: &[u8]) -> Result<Value, StoreError>
-    ensures { IfOk result (λ value. value ≡ bytes.now) }
+    ensures bytes { IfOk result (λ value. value ≡ bytes.now) }
+    ensures refused { IfErr result (IsValueFault bytes.now) }
 {
     match Value::from_bytes(bytes) {
         Ok(value) => Ok(value),

@@ -1,9 +1,10 @@
 //! A page file that is opened whole, and worked on in memory.
-ghost use Rattle.std.specs.Prelude.{◌≡◌, IfOk, OnErr, OnOk, length};
-ghost use Rattle.std.specs.FinMap.{from_entries};
+ghost use Rattle.std.specs.Prelude.{◌≡◌, [], ◌∷◌, IfErr, IfOk, OnErr, OnOk, length};
+ghost use Rattle.std.specs.FinMap.{from_entries, len};
 ghost use Rattle.exh_file.specs.FileChange.{HasMap};
 ghost use Rattle.exh_file.specs.Opened.{settings_in};
 ghost use Rattle.exh_page.specs.KeyMap.{KeyMap};
+ghost use Rattle.exhash.specs.CallFault.{IsCallFault};
 ghost use Rattle.exhash.specs.FileMap.{IsGot, IsPut, IsPutNew, IsRemoved, IsReplaced, IsSwap, KeepsMap};
 ghost use Rattle.exhash.specs.Pairs.{AreOnce, pairs_in};
 
@@ -109,6 +110,7 @@ impl<'r> Store<'r> {
     /// `EmptyKey`, `KeyTooLong`: it is no key. `Memory`: a growth was refused. The pairs are as before.
     pub fn get(&mut self, key: &[u8]) -> Result<Option<Value>, StoreError>
         ensures got { IfOk result (λ answer. IsGot self.old.map key.now answer self.new.map) }
+        ensures refused { IfErr result (IsCallFault key.now []) }
         ensures err { OnErr result (KeepsMap self.old.map self.new.map) }
         ensures settings { settings_in self.new.map ≡ settings_in self.old.map }
     {
@@ -122,6 +124,7 @@ impl<'r> Store<'r> {
     /// before.
     pub fn put(&mut self, key: &[u8], value: &[u8]) -> Result<Put, StoreError>
         ensures put { IfOk result (λ answer. IsPut self.old.map key.now value.now answer self.new.map) }
+        ensures refused { IfErr result (IsCallFault key.now (value.now ∷ [])) }
         ensures err { OnErr result (KeepsMap self.old.map self.new.map) }
         ensures settings { settings_in self.new.map ≡ settings_in self.old.map }
     {
@@ -137,6 +140,7 @@ impl<'r> Store<'r> {
     /// Errors: as of `put`.
     pub fn put_new(&mut self, key: &[u8], value: &[u8]) -> Result<PutNew, StoreError>
         ensures put { IfOk result (λ answer. IsPutNew self.old.map key.now value.now answer self.new.map) }
+        ensures refused { IfErr result (IsCallFault key.now (value.now ∷ [])) }
         ensures err { OnErr result (KeepsMap self.old.map self.new.map) }
         ensures settings { settings_in self.new.map ≡ settings_in self.old.map }
     {
@@ -152,6 +156,7 @@ impl<'r> Store<'r> {
     /// Errors: as of `put`.
     pub fn replace(&mut self, key: &[u8], value: &[u8]) -> Result<Option<Value>, StoreError>
         ensures replaced { IfOk result (λ answer. IsReplaced self.old.map key.now value.now answer self.new.map) }
+        ensures refused { IfErr result (IsCallFault key.now (value.now ∷ [])) }
         ensures err { OnErr result (KeepsMap self.old.map self.new.map) }
         ensures settings { settings_in self.new.map ≡ settings_in self.old.map }
     {
@@ -167,6 +172,7 @@ impl<'r> Store<'r> {
     /// Errors: as of `get`.
     pub fn remove(&mut self, key: &[u8]) -> Result<Option<Value>, StoreError>
         ensures removed { IfOk result (λ answer. IsRemoved self.old.map key.now answer self.new.map) }
+        ensures refused { IfErr result (IsCallFault key.now []) }
         ensures err { OnErr result (KeepsMap self.old.map self.new.map) }
         ensures settings { settings_in self.new.map ≡ settings_in self.old.map }
     {
@@ -181,6 +187,7 @@ impl<'r> Store<'r> {
     /// Errors: as of `put`.
     pub fn swap(&mut self, key: &[u8], old: &[u8], new: &[u8]) -> Result<Swap, StoreError>
         ensures swapped { IfOk result (λ answer. IsSwap self.old.map key.now old.now new.now answer self.new.map) }
+        ensures refused { IfErr result (IsCallFault key.now (old.now ∷ new.now ∷ [])) }
         ensures err { OnErr result (KeepsMap self.old.map self.new.map) }
         ensures settings { settings_in self.new.map ≡ settings_in self.old.map }
     {
@@ -197,6 +204,7 @@ impl<'r> Store<'r> {
     /// `Memory`: a growth was refused.
     pub fn len(&mut self) -> Result<usize, StoreError>
         ensures len { IfOk result (λ count. count ≡ length (pairs_in self.old.map.wards)) }
+        ensures map { IfOk result (λ count. (whole : KeyMap) → HasMap self.old.map whole → count ≡ len whole) }
         ensures same { OnOk result (self.new.map ≡ self.old.map) }
         ensures err { OnErr result (KeepsMap self.old.map self.new.map) }
         ensures settings { settings_in self.new.map ≡ settings_in self.old.map }
@@ -210,6 +218,7 @@ impl<'r> Store<'r> {
     pub fn pairs(&mut self) -> Result<Pairs, StoreError>
         ensures pairs { IfOk result (λ pairs. pairs ≡ pairs_in self.old.map.wards) }
         ensures once { IfOk result (λ pairs. AreOnce pairs) }
+        ensures has { IfOk result (λ pairs. HasMap self.old.map (from_entries pairs)) }
         ensures map { IfOk result (λ pairs. (whole : KeyMap) → HasMap self.old.map whole → from_entries pairs ≡ whole) }
         ensures same { OnOk result (self.new.map ≡ self.old.map) }
         ensures err { OnErr result (KeepsMap self.old.map self.new.map) }
@@ -222,7 +231,7 @@ impl<'r> Store<'r> {
     /// older one the whole file. On `Ok` it is on the disk. A crash leaves all of it or nothing.
     ///
     /// `ReadOnly`: the store was opened to be read. `Vanished`, `Changed`: the file is no longer the one that was opened.
-    /// `Unsure`: the change is saved or not, which the next open tells; this store commits no more. `Unheld`: it is saved,
+    /// `Unsure`: the change is saved or not, which the next open tells. `Unheld`: it is saved,
     /// but this store commits no more. Others: nothing was saved, as they say. The pairs of the store are as before in each
     /// case.
     pub fn commit(&mut self) -> Result<(), StoreError>

@@ -1,3 +1,6 @@
+ghost use Rattle.std.specs.Prelude.{◌≡◌};
+ghost use Rattle.exhash.specs.CallFault.{fault_of};
+
 use exh_codec::ImageFault;
 use exh_direct::DirectFault;
 use exh_disk::DiskFault;
@@ -149,6 +152,8 @@ impl From<io::Error> for StoreError {
 }
 
 impl From<WardFault> for StoreError {
+    ghost from_gives = { λ ward fault. fault ≡ fault_of ward };
+
     fn from(fault: WardFault) -> StoreError {
         match fault {
             WardFault::Page => StoreError::OutOfReach,

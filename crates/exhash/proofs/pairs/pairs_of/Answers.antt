@@ -8,7 +8,7 @@ use Rattle.exh_keyer.specs.declared.any_keyer.AnyKeyer.{AnyKeyer}
 use Rattle.exh_ward.specs.WardState.{IsSoundWard, WardState}
 use Rattle.exh_file.specs.Opened.{AreWardsOf, in_file}
 use Rattle.exhash.specs.FileMap.{KeepsMap}
-use Rattle.exhash.proofs.OnceLemmas.{file_once}
+use Rattle.exhash.proofs.OnceLemmas.{file_once, has_all}
 use Rattle.exhash.proofs.PairsLemmas.{set_same, wards_on}
 use Rattle.exhash.proofs.SetLemmas.{keeps_set, unchanged_same, wards_set}
 use Rattle.exhash.proofs.pairs.pairs_of.Goals as goal
@@ -63,3 +63,9 @@ returns-clause-once g c =
     let items = c.args.wards.now.items in
     let all : length items ≤ c.wards.number = omega (arith, c.wards-test.false, c.len-number-end.ensures, c.args.wards.now.ok.0) in
     file_once (in_file c.args.settings items) c.requires (λ number ward there. c.wards.invariant.sound number ward (omega (arith, all, slice_get_within items number ward there)) there)
+
+pub returns-clause-has : goal.returns-clause-has
+returns-clause-has g c =
+    let items = c.args.wards.now.items in
+    let all : length items ≤ c.wards.number = omega (arith, c.wards-test.false, c.len-number-end.ensures, c.args.wards.now.ok.0) in
+    has_all (in_file c.args.settings items) c.requires (λ number ward there. c.wards.invariant.sound number ward (omega (arith, all, slice_get_within items number ward there)) there)

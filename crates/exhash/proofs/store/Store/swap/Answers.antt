@@ -4,6 +4,6 @@ use Rattle.exhash.proofs.store.Store.swap.Goals as goal
 
 pub returns-clause-swapped : goal.returns-clause-swapped
 returns-clause-swapped c =
-    let with_key = subst (λ (key : List ℕ). IsSwap c.args.self.now.map key c.in_ok-old.old c.in_ok-new.new c.in_ok-swap.swap c.swap.new.self) c.in_ok-key.ensures c.in_ok-swap.ensures.swapped in
-    let with_old = subst (λ (old : List ℕ). IsSwap c.args.self.now.map c.args.key.now old c.in_ok-new.new c.in_ok-swap.swap c.swap.new.self) c.in_ok-old.ensures with_key in
-    subst (λ (new : List ℕ). IsSwap c.args.self.now.map c.args.key.now c.args.old.now new c.in_ok-swap.swap c.swap.new.self) c.in_ok-new.ensures with_old
+    let with_key = subst (λ (key : List ℕ). IsSwap c.args.self.now.map key c.in_ok-old.old c.in_ok-new.new c.in_ok-swap.swap c.swap.new.self) c.in_ok-key.ensures.bytes c.in_ok-swap.ensures.swapped in
+    let with_old = subst (λ (old : List ℕ). IsSwap c.args.self.now.map c.args.key.now old c.in_ok-new.new c.in_ok-swap.swap c.swap.new.self) c.in_ok-old.ensures.bytes with_key in
+    subst (λ (new : List ℕ). IsSwap c.args.self.now.map c.args.key.now c.args.old.now new c.in_ok-swap.swap c.swap.new.self) c.in_ok-new.ensures.bytes with_old

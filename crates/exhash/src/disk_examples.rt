@@ -1,0 +1,78 @@
+//! Commits over files in memory: the three-pair file of FORMATS.md in version 3, whose stamps are 7 and 5.
+ghost use Rattle.std.specs.Prelude.{IfOk, IsTrue};
+ghost use Rattle.sqlite_disk.specs.Disk.{Only};
+
+use crate::three_pairs::third_version;
+use crate::{FileMap, Key, StoreError, Value, commit_files};
+use exh_file::{Stamps, open};
+use sqlite_disk::{Disk, Files, Memory};
+use sqlite_pager::Options;
+use std::alloc::Global;
+use std::io;
+use std::test::Fail;
+
+fn options() -> Options {
+    Options {
+        cache_pages: 64,
+        spill_pages: 2000,
+        checkpoint_frames: 1000,
+        seed: 7,
+    }
+}
+
+// A disk of which all is on the disk.
+fn durable<D: Disk + Drop>(mut file: D) -> Result<D, io::Error>
+    ensures usable { IfOk result (λ it. IsTrue (D.Disk.is_usable it)) }
+    ensures synced { IfOk result (λ it. Only (D.Disk.seen it) (D.Disk.may_leave it)) }
+{
+    if !file.may_be_used() {
+        return Err(io::Error::from(io::ErrorKind::Other));
+    }
+    file.sync()?;
+    Ok(file)
+}
+
+// The file, and an empty log.
+fn files_of(alloc: Global, bytes: &[u8]) -> Result<(Memory, Memory), Fail> {
+    let mut file = Memory::new(alloc);
+    file.write_at(0, bytes)?;
+    Ok((Memory::new(alloc), file))
+}
+
+// What is left of it after a commit of one put more, over a file that should have this stamp.
+fn committed(alloc: Global, stamp: u64) -> Result<(Result<(), StoreError>, Memory), Fail> {
+    let bytes = third_version(alloc)?;
+    let mut map = FileMap::new(open(alloc, &mut bytes.as_slice())?);
+    map.put(&Key::from_bytes(b"\x20")?, &Value::from_bytes(b"z")?)?;
+    let (log, db) = files_of(alloc, &bytes)?;
+    let files = Files {
+        log: durable(log)?,
+        db: durable(db)?,
+    };
+    let stamps = Stamps {
+        own: 9,
+        before: stamp,
+    };
+    let (saved, files) = commit_files(alloc, files, options(), &[0, 1 << 63], stamps, &mut map);
+    Ok((saved, files.db))
+}
+
+#[test]
+fn commits_over_files_in_memory(rt: HostRuntime) -> Result<(), Fail> {
+    let (saved, db) = committed(rt.alloc(), 7)?;
+    assert!(rt; saved.is_ok());
+    let mut bytes = db.bytes();
+    let mut map = FileMap::new(open(rt.alloc(), &mut bytes)?);
+    assert_eq!(rt; map.pairs(rt.alloc())?.len(), 4);
+    let value = map.get(&Key::from_bytes(b"\x20")?)?;
+    assert_eq!(rt; value, Some(Value::from_bytes(b"z")?));
+    Ok(())
+}
+
+#[test]
+fn another_state_is_not_saved_over(rt: HostRuntime) -> Result<(), Fail> {
+    let (refused, db) = committed(rt.alloc(), 8)?;
+    assert!(rt; matches!(refused, Err(StoreError::Changed)));
+    assert!(rt; db.bytes() == third_version(rt.alloc())?.as_slice());
+    Ok(())
+}
