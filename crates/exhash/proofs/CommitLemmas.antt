@@ -29,59 +29,17 @@ use Rattle.exh_file.specs.declared.placing.Stamps.{Stamps}
 use Rattle.exh_paged.specs.CallChange.{HasPairs}
 use Rattle.exh_paged.specs.Saving.{IsOldOrSaved, IsSavedOver}
 use Rattle.exhash.specs.Commit.{Drafts, IsCommitted, IsOldOrCommitted}
-use Rattle.exhash.specs.FileMap.{KeepsMap}
-use Rattle.exhash.specs.Pairs.{pairs_in, pairs_of}
-use Rattle.exhash.specs.declared.store_error.StoreError.{StoreError}
-use Rattle.exhash.proofs.LeftLemmas.{maps_alike, own_map, same_ward}
-use Rattle.exhash.proofs.WholeMap.{whole_is}
-
--- ---- wards that were opened again
-
-module _ (old new : OpenedState) (again : IsReopened old new) where
-  pub keeps_again : KeepsMap old new
-  keeps_again whole has =
-      let maps : maps_in new ≡ maps_in old = maps_alike old.wards new.wards again.count (λ number ward left was there. ap own_map (again.each number ward left was there)) in
-      let own = subst (AreParts old.ward_bits (any_pseudokey old.keyer) whole) (sym maps) has in
-      let bits = subst (λ (bits : ℕ). AreParts bits (any_pseudokey old.keyer) whole (maps_in new)) (sym again.bits) own in
-      subst (λ (keyer : AnyKeyer). AreParts new.ward_bits (any_pseudokey keyer) whole (maps_in new)) (sym again.keyer) bits
-
-  pub wards_again : AreWardsOf old → AreWardsOf new
-  wards_again are = record {
-    some = omega (arith, are.some, again.cap);
-    most = omega (arith, are.most, again.cap);
-    bits = omega (arith, are.bits, again.bits);
-    count = again.count ∙ are.count ∙ ap (λ (bits : ℕ). 2 ^ bits) (sym again.bits);
-    each = λ number ward there.
-        let was = same_ward old.wards new.wards number ward again.count there in
-        let is = again.each number was.0 ward was.1 there in
-        let own = are.each number was.0 was.1 in
-        record {
-          cap = ap (λ (w : WardState AnyKeyer). w.cap) is ∙ own.cap ∙ sym again.cap;
-          bits = ap (λ (w : WardState AnyKeyer). w.ward_bits) is ∙ own.bits ∙ sym again.bits;
-          number_is = ap (λ (w : WardState AnyKeyer). w.number) is ∙ own.number_is;
-          keyer = ap (λ (w : WardState AnyKeyer). w.keyer) is ∙ own.keyer ∙ sym again.keyer;
-        };
-  }
-
-pub keeps_again_if : (old : OpenedState) (result : Result OpenedState StoreError) → IfOk result (IsReopened old) → IfOk result (λ copy. KeepsMap old copy)
-keeps_again_if old (Ok copy) again = keeps_again old copy again
-keeps_again_if old (Err fault) again = tt
-
-pub wards_again_if : (old : OpenedState) (result : Result OpenedState StoreError) → AreWardsOf old → IfOk result (IsReopened old) → IfOk result (λ copy. AreWardsOf copy)
-wards_again_if old (Ok copy) are again = wards_again old copy again are
-wards_again_if old (Err fault) are again = tt
+use Rattle.exh_map.specs.FileMap.{KeepsMap}
+use Rattle.exh_map.specs.Pairs.{pairs_in, pairs_of}
+use Rattle.exh_map.specs.declared.store_error.StoreError.{StoreError}
+use Rattle.exh_map.proofs.AgainLemmas.{all_pairs}
+use Rattle.exh_map.proofs.LeftLemmas.{maps_alike, own_map, same_ward}
+use Rattle.exh_map.proofs.WholeMap.{whole_is}
 
 -- ---- the pairs of a page file
 
 abbrev map_of_pairs : List (List ℕ × List ℕ) → KeyMap
 map_of_pairs pairs = fin.from_entries pairs
-
-pub all_pairs : (wards : List (WardState AnyKeyer)) → map pair_of (flat_map records_of (pages_of (pages_of_all wards))) ≡ pairs_in wards
-all_pairs [] = refl
-all_pairs (ward ∷ wards) =
-    ap (map pair_of) (flat_map-append records_of ward.pages (pages_of (pages_of_all wards)))
-    ∙ map-append pair_of (flat_map records_of ward.pages) (flat_map records_of (pages_of (pages_of_all wards)))
-    ∙ ap (λ (more : List (List ℕ × List ℕ)). pairs_of ward.pages ++ more) (all_pairs wards)
 
 has_pairs : (opened : OpenedState) (are : AreWardsOf opened) (placing : Placing) (bytes : List ℕ) (whole : KeyMap) → HasMap opened whole → IsPlacedSaving opened placing bytes → HasPairs bytes whole
 has_pairs opened are placing bytes whole has saving = record {

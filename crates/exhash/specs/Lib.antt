@@ -1,6 +1,2 @@
--- the answers of calls, the map of a file's wards, its pairs, commits of it, and why calls are refused
-pub mod Answers
-pub mod FileMap
-pub mod Pairs
+-- commits of a map
 pub mod Commit
-pub mod CallFault

@@ -1,11 +1,11 @@
 //! Calls that page files of version 3 answer in place.
 
-use crate::StoreError;
 use crate::reading::opened_at;
 use exh_calls::{Call, Reply};
 use exh_codec::BLOCK_LEN;
 use exh_format::{Header, version_in};
 use exh_in_place::change_at;
+use exh_map::StoreError;
 use std::fs::File;
 use std::io::ErrorKind;
 use std::os::unix::fs::FileExt;

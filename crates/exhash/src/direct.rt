@@ -2,10 +2,9 @@
 
 use crate::change_at::changed_at;
 use crate::key_reading::KeyReading;
-use crate::sizes::{key_of, value_of};
-use crate::{Put, StoreError, Swap};
 use exh_calls::{Call, Reply};
 use exh_in_place::read_one_state;
+use exh_map::{Put, StoreError, Swap, key_of, value_of};
 use exh_page::Value;
 use std::cell::Cell;
 

@@ -7,14 +7,14 @@ ghost use Rattle.exh_file.specs.FileChange.{HasMap};
 ghost use Rattle.exh_file.specs.Opened.{settings_in};
 ghost use Rattle.exh_page.specs.KeyMap.{KeyMap};
 ghost use Rattle.exhash.specs.Commit.{Drafts, IsCommitted, IsOldOrCommitted};
-ghost use Rattle.exhash.specs.FileMap.{KeepsMap};
+ghost use Rattle.exh_map.specs.FileMap.{KeepsMap};
 
 use crate::drafting::drafted;
-use crate::{FileMap, StoreError};
 use exh_commit::Truthful;
 use exh_file::{Draft, Stamps};
 use exh_frames::FileStore;
 use exh_in_place::Refused;
+use exh_map::{FileMap, StoreError};
 use exh_paged::save_files;
 use exh_stores::Pages;
 use sqlite_disk::Files;

@@ -3,8 +3,9 @@ ghost use Rattle.std.specs.Prelude.{IfOk, IsTrue};
 ghost use Rattle.sqlite_disk.specs.Disk.{Only};
 
 use crate::three_pairs::third_version;
-use crate::{FileMap, Key, StoreError, Value, commit_files};
+use crate::{Key, Value, commit_files};
 use exh_file::{Stamps, open};
+use exh_map::{FileMap, StoreError};
 use sqlite_disk::{Disk, Files, Memory};
 use sqlite_pager::Options;
 use std::alloc::Global;

@@ -5,9 +5,9 @@ ghost use Rattle.exh_file.specs.Opened.{AreWardsOf};
 ghost use Rattle.exh_page.specs.KeyMap.{KeyMap};
 ghost use Rattle.exhash.specs.Commit.{Drafts};
 
-use crate::StoreError;
 use exh_file::{Draft, Opened, Stamps};
 use exh_frames::FileStore;
+use exh_map::StoreError;
 use std::alloc::Global;
 
 /// The draft of wards some of whose pages have places already, where they have these low bounds. It takes memory for some

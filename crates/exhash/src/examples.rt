@@ -1,7 +1,8 @@
 //! Stores and direct calls over files of the system: new ones, and the three-pair file of FORMATS.md.
 
 use crate::three_pairs::{second_version, third_version};
-use crate::{Direct, Keyer, Put, PutNew, Settings, Store, StoreError, Swap, USUAL, Value};
+use crate::{Direct, Keyer, Store, Value};
+use exh_map::{Put, PutNew, Settings, StoreError, Swap, USUAL};
 use exh_system::draw_stamp;
 use std::fs;
 use std::test::Fail;

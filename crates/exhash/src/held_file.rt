@@ -1,15 +1,15 @@
 //! A page file under the writers' lock.
 ghost use Rattle.std.specs.Prelude.{◌≡◌};
 ghost use Rattle.exh_file.specs.Opened.{AreWardsOf, settings_in};
-ghost use Rattle.exhash.specs.FileMap.{KeepsMap};
+ghost use Rattle.exh_map.specs.FileMap.{KeepsMap};
 
 use crate::drafting::drafted;
 use crate::new_file::save_draft;
 use crate::reading::{opened_at, read_whole};
-use crate::{FileMap, StoreError};
 use exh_file::{Draft, FileForm, Opened, PlacedForm, Stamps};
 use exh_frames::FileStore;
 use exh_in_place::{recover_at, save_in_place};
+use exh_map::{FileMap, StoreError};
 use exh_path::{OpenedFile, SystemDisk, SystemFile, open_above};
 use exh_saving::Saved;
 use exh_system::{above_limit, draw_stamp, front_of, is_at, lock_soon};

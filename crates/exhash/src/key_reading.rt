@@ -1,8 +1,8 @@
 //! A get as a reading of an open file, which may be made again.
 
-use crate::StoreError;
 use exh_direct::{Blocks, DirectFault};
 use exh_in_place::Reading;
+use exh_map::StoreError;
 use exh_page::{Key, Value};
 use exh_system::{FileBlocks, Reason, with_reason};
 use exh_walked::find_any;

@@ -1,8 +1,8 @@
 //! New page files, and those that replace others.
 
-use crate::{Settings, StoreError};
 use exh_file::{Draft, Opened, Stamps};
 use exh_frames::{FileStore, MAKER};
+use exh_map::{Settings, StoreError};
 use exh_path::{OpenedFile, SystemDisk, SystemFile, open_above, save_at};
 use exh_saving::Saved;
 use exh_stream::{Console, Meter, Unit, Work};

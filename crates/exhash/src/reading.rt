@@ -1,9 +1,9 @@
 //! Page files that are read whole.
 
-use crate::StoreError;
 use exh_file::{FileForm, Opened, open_form};
 use exh_frames::FileStore;
 use exh_in_place::hold_still;
+use exh_map::StoreError;
 use exh_notes::ReasonReader;
 use exh_system::open_regular;
 use std::alloc::Global;

@@ -4,16 +4,15 @@ ghost use Rattle.std.specs.FinMap.{from_entries, len};
 ghost use Rattle.exh_file.specs.FileChange.{HasMap};
 ghost use Rattle.exh_file.specs.Opened.{settings_in};
 ghost use Rattle.exh_page.specs.KeyMap.{KeyMap};
-ghost use Rattle.exhash.specs.CallFault.{IsCallFault};
-ghost use Rattle.exhash.specs.FileMap.{IsGot, IsPut, IsPutNew, IsRemoved, IsReplaced, IsSwap, KeepsMap};
-ghost use Rattle.exhash.specs.Pairs.{AreOnce, pairs_in};
+ghost use Rattle.exh_map.specs.CallFault.{IsCallFault};
+ghost use Rattle.exh_map.specs.FileMap.{IsGot, IsPut, IsPutNew, IsRemoved, IsReplaced, IsSwap, KeepsMap};
+ghost use Rattle.exh_map.specs.Pairs.{AreOnce, pairs_in};
 
 use crate::held_file::HeldFile;
 use crate::new_file::make;
 use crate::reading::read_still;
-use crate::sizes::{key_of, value_of};
-use crate::{FileMap, Pairs, Put, PutNew, Settings, StoreError, Swap};
 use exh_frames::FileStore;
+use exh_map::{FileMap, Pairs, Put, PutNew, Settings, StoreError, Swap, key_of, value_of};
 use exh_page::Value;
 use exh_system::WAIT;
 

@@ -1,5 +1,5 @@
 use Rattle.std.proofs.Common.{Result, Ok, Err, OnOk}
-use Rattle.exhash.specs.declared.store_error.StoreError.{StoreError}
+use Rattle.exh_map.specs.declared.store_error.StoreError.{StoreError}
 use Rattle.exhash.proofs.CommitLemmas.{leaves_untouched}
 use Rattle.exhash.proofs.disk_commit.commit_files.Goals as goal
 

@@ -4,8 +4,8 @@ use Rattle.exh_file.specs.Draft.{DraftState}
 use Rattle.exh_file.specs.FileChange.{HasMap}
 use Rattle.exh_file.specs.Opened.{OpenedState}
 use Rattle.exhash.specs.Commit.{Drafts}
-use Rattle.exhash.specs.FileMap.{KeepsMap}
-use Rattle.exhash.specs.declared.store_error.StoreError.{StoreError}
+use Rattle.exh_map.specs.FileMap.{KeepsMap}
+use Rattle.exh_map.specs.declared.store_error.StoreError.{StoreError}
 use Rattle.exhash.proofs.disk_commit.draft_of.Goals as goal
 
 of_copy : (old copy : OpenedState) (result : Result DraftState StoreError) → KeepsMap old copy → IfOk result (λ draft. (whole : KeyMap) → HasMap copy whole → Drafts whole draft) → IfOk result (λ draft. (whole : KeyMap) → HasMap old whole → Drafts whole draft)

@@ -1,5 +1,5 @@
 use Rattle.std.proofs.Common.{ℕ, List, subst}
-use Rattle.exhash.specs.FileMap.{IsGot}
+use Rattle.exh_map.specs.FileMap.{IsGot}
 use Rattle.exhash.proofs.store.Store.get.Goals as goal
 
 pub returns-clause-got : goal.returns-clause-got

@@ -1,5 +1,5 @@
 use Rattle.std.proofs.Common.{rules}
-use Rattle.exhash.proofs.OnceLemmas.{counted}
+use Rattle.exh_map.proofs.OnceLemmas.{counted}
 use Rattle.exhash.proofs.store.Store.len.Goals as goal
 
 pub returns-clause-map : goal.returns-clause-map

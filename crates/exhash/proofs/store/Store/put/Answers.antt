@@ -1,5 +1,5 @@
 use Rattle.std.proofs.Common.{ℕ, List, subst}
-use Rattle.exhash.specs.FileMap.{IsPut}
+use Rattle.exh_map.specs.FileMap.{IsPut}
 use Rattle.exhash.proofs.store.Store.put.Goals as goal
 
 pub returns-clause-put : goal.returns-clause-put

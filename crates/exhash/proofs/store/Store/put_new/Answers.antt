@@ -1,5 +1,5 @@
 use Rattle.std.proofs.Common.{ℕ, List, subst}
-use Rattle.exhash.specs.FileMap.{IsPutNew}
+use Rattle.exh_map.specs.FileMap.{IsPutNew}
 use Rattle.exhash.proofs.store.Store.put_new.Goals as goal
 
 pub returns-clause-put : goal.returns-clause-put

@@ -1,5 +1,5 @@
 use Rattle.std.proofs.Common.{ℕ, List, subst}
-use Rattle.exhash.specs.FileMap.{IsRemoved}
+use Rattle.exh_map.specs.FileMap.{IsRemoved}
 use Rattle.exhash.proofs.store.Store.remove.Goals as goal
 
 pub returns-clause-removed : goal.returns-clause-removed

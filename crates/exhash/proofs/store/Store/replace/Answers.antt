@@ -1,5 +1,5 @@
 use Rattle.std.proofs.Common.{ℕ, List, subst}
-use Rattle.exhash.specs.FileMap.{IsReplaced}
+use Rattle.exh_map.specs.FileMap.{IsReplaced}
 use Rattle.exhash.proofs.store.Store.replace.Goals as goal
 
 pub returns-clause-replaced : goal.returns-clause-replaced

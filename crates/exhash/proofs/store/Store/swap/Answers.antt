@@ -1,5 +1,5 @@
 use Rattle.std.proofs.Common.{ℕ, List, subst}
-use Rattle.exhash.specs.FileMap.{IsSwap}
+use Rattle.exh_map.specs.FileMap.{IsSwap}
 use Rattle.exhash.proofs.store.Store.swap.Goals as goal
 
 pub returns-clause-swapped : goal.returns-clause-swapped

@@ -1,0 +1,5 @@
+-- the answers of calls, the map of a file's wards, its pairs, and why calls are refused
+pub mod Answers
+pub mod FileMap
+pub mod Pairs
+pub mod CallFault

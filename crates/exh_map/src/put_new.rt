@@ -1,0 +1,29 @@
+ghost use Rattle.std.specs.Prelude.{◌≡◌};
+ghost use Rattle.exh_map.specs.Answers.{put_new_said};
+
+use exh_calls::Reply;
+use exh_page::Value;
+
+/// What a put came to that replaces no value.
+#[derive(Clone, Copy, Debug, PartialEq, Eq)]
+pub enum PutNew {
+    /// The key had no value, and has the given one now.
+    New,
+    /// The key has this value, which stays.
+    Is(Value),
+    /// The key has no value and gets none: as many keys as a page holds share the first 20 bits of its hash.
+    Full,
+}
+
+impl PutNew {
+    /// What the reply to a put says, where the key had no value.
+    pub fn of(reply: Reply) -> PutNew
+        ensures { result ≡ put_new_said reply }
+    {
+        match reply {
+            Reply::New => PutNew::New,
+            Reply::Was(value) => PutNew::Is(value),
+            _ => PutNew::Full,
+        }
+    }
+}

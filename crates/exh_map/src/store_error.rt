@@ -1,0 +1,246 @@
+ghost use Rattle.std.specs.Prelude.{◌≡◌};
+ghost use Rattle.exh_map.specs.CallFault.{fault_of};
+
+use exh_codec::ImageFault;
+use exh_direct::DirectFault;
+use exh_disk::DiskFault;
+use exh_file::{DraftFault, FileFault, LegalFileFault, OpenFault, SaveFault};
+use exh_in_place::Refused;
+use exh_legal::Reason;
+use exh_system::{AboveLimit, InPlaceFault};
+use exh_ward::WardFault;
+use std::alloc::{AllocError, AllocFailed};
+use std::io;
+use std::io::ErrorKind;
+use thiserror::Error;
+
+/// Why a call on a store or a page file failed. But for `Unsure` and `Unheld` nothing was changed.
+#[derive(Debug, Drop, Error)]
+pub enum StoreError {
+    /// The key has no bytes.
+    #[error("a key has at least one byte")]
+    EmptyKey,
+    /// The key has so many bytes, more than 64.
+    #[error("a key has at most 64 bytes, and not {length}")]
+    KeyTooLong { length: usize },
+    /// The value has so many bytes, more than 128.
+    #[error("a value has at most 128 bytes, and not {length}")]
+    ValueTooLong { length: usize },
+    /// A cap that isn't 1 to 16, or ward bits above 4.
+    #[error("a page holds 1 to 16 records, and a file has at most 2^4 parts")]
+    Settings,
+    /// Something is at the path of a new file.
+    #[error("something is there already")]
+    Exists,
+    /// Nothing is at the path.
+    #[error("nothing is there")]
+    Absent,
+    /// Another process has the writers' lock.
+    #[error("another process is at work on it")]
+    Busy,
+    /// The file is no longer at its path.
+    #[error("the file is no longer at its path")]
+    Vanished,
+    /// The file is another state than the one that was opened, or others came to its path or changed it all the while.
+    #[error("it was changed by others")]
+    Changed,
+    /// What is there doesn't begin as a page file does.
+    #[error("it is no page file")]
+    NoPageFile,
+    /// It is a page file of a version that isn't known.
+    #[error("the page file is of a version that isn't known")]
+    UnknownVersion,
+    /// It is of version 1 or 2, which isn't changed in place. A store opens it.
+    #[error("the page file is of a version that isn't changed in place")]
+    OldVersion,
+    /// The block at this place isn't what belongs there, the header being block 0.
+    #[error("block {block}: {fault}")]
+    Damaged { block: u32, fault: ImageFault },
+    /// It ends amid a block, or before its last one.
+    #[error("it ends too early")]
+    Truncated,
+    /// Bytes stand behind its last block.
+    #[error("it goes on behind its last block")]
+    Trailing,
+    /// Its pages and tables don't fit together, for this reason first.
+    #[error("the page file isn't legal: {0}")]
+    Illegal(Reason),
+    /// The pages on a key's way don't lead to the key's own.
+    #[error("the page file isn't legal: its links don't lead to the key's page")]
+    Astray,
+    /// It can't be changed in place.
+    #[error("{0}")]
+    Unfit(InPlaceFault),
+    /// It can't be replaced by a new file.
+    #[error("{0}")]
+    Unsaved(DiskFault),
+    /// It would be longer than the system lets a file be.
+    #[error("{0}")]
+    AboveLimit(AboveLimit),
+    /// The store was opened to be read alone.
+    #[error("the store was opened to be read")]
+    ReadOnly,
+    /// The change wasn't saved.
+    #[error("{0}")]
+    NotSaved(Refused),
+    /// The change may have been saved, or was and stands in the log beside the file: who opens it next finds it whole or not
+    /// at all.
+    #[error("{0}")]
+    Unsure(Refused),
+    /// The change was saved, but the store has its file no longer.
+    #[error("it is saved, but can't be opened again: {0}")]
+    Unheld(io::Error),
+    /// A page couldn't be reached. The stores of the program reach every page.
+    #[error("a page is out of reach")]
+    OutOfReach,
+    /// A growth was refused.
+    #[error("out of memory")]
+    Memory,
+    /// The system failed.
+    #[error("{0}")]
+    Io(io::Error),
+}
+
+impl StoreError {
+    /// Why no page file was opened, where reading failed for this reason, if it did.
+    pub fn of_opening(fault: OpenFault, reason: Option<io::Error>) -> StoreError {
+        match fault {
+            OpenFault::File(LegalFileFault::File(fault)) => StoreError::from(fault),
+            OpenFault::File(LegalFileFault::Illegal(reason)) => StoreError::Illegal(reason),
+            OpenFault::File(LegalFileFault::Read) => StoreError::of_reading(reason),
+            OpenFault::File(LegalFileFault::Memory) => StoreError::Memory,
+            OpenFault::Page => StoreError::OutOfReach,
+        }
+    }
+
+    /// Why a key's value wasn't found out, where reading failed for this reason, if it did.
+    pub fn of_finding(fault: DirectFault, reason: Option<io::Error>) -> StoreError {
+        match fault {
+            DirectFault::Read => StoreError::of_reading(reason),
+            fault => StoreError::from(fault),
+        }
+    }
+
+    // That reading failed.
+    fn of_reading(reason: Option<io::Error>) -> StoreError {
+        match reason {
+            Some(error) => StoreError::from(error),
+            None => StoreError::Io(io::Error::from(ErrorKind::Other)),
+        }
+    }
+}
+
+impl From<AllocError> for StoreError {
+    fn from(_error: AllocError) -> StoreError {
+        StoreError::Memory
+    }
+}
+
+impl<T: Drop> From<AllocFailed<T>> for StoreError {
+    fn from(_error: AllocFailed<T>) -> StoreError {
+        StoreError::Memory
+    }
+}
+
+impl From<io::Error> for StoreError {
+    fn from(error: io::Error) -> StoreError {
+        match error.kind() {
+            ErrorKind::OutOfMemory => StoreError::Memory,
+            _ => StoreError::Io(error),
+        }
+    }
+}
+
+impl From<WardFault> for StoreError {
+    ghost from_gives = { λ ward fault. fault ≡ fault_of ward };
+
+    fn from(fault: WardFault) -> StoreError {
+        match fault {
+            WardFault::Page => StoreError::OutOfReach,
+            _ => StoreError::Memory,
+        }
+    }
+}
+
+impl From<SaveFault> for StoreError {
+    fn from(fault: SaveFault) -> StoreError {
+        match fault {
+            SaveFault::Page => StoreError::OutOfReach,
+            SaveFault::Write | SaveFault::Memory => StoreError::Memory,
+        }
+    }
+}
+
+impl From<DraftFault> for StoreError {
+    fn from(fault: DraftFault) -> StoreError {
+        match fault {
+            DraftFault::Places => StoreError::Changed,
+            DraftFault::Page => StoreError::OutOfReach,
+            DraftFault::Memory => StoreError::Memory,
+        }
+    }
+}
+
+impl From<FileFault> for StoreError {
+    fn from(fault: FileFault) -> StoreError {
+        match fault {
+            FileFault::Block { place, fault } => StoreError::Damaged {
+                block: place,
+                fault,
+            },
+            FileFault::Magic => StoreError::NoPageFile,
+            FileFault::Version => StoreError::UnknownVersion,
+            FileFault::Truncated => StoreError::Truncated,
+            FileFault::Trailing => StoreError::Trailing,
+        }
+    }
+}
+
+impl From<DirectFault> for StoreError {
+    fn from(fault: DirectFault) -> StoreError {
+        match fault {
+            DirectFault::File(fault) => StoreError::from(fault),
+            DirectFault::Astray => StoreError::Astray,
+            DirectFault::Read => StoreError::Io(io::Error::from(ErrorKind::Other)),
+            DirectFault::Memory => StoreError::Memory,
+        }
+    }
+}
+
+impl From<InPlaceFault> for StoreError {
+    fn from(fault: InPlaceFault) -> StoreError {
+        match fault {
+            InPlaceFault::Busy => StoreError::Busy,
+            InPlaceFault::Changed | InPlaceFault::NotAsOpened | InPlaceFault::Restless => {
+                StoreError::Changed
+            }
+            InPlaceFault::System(error) => StoreError::Io(error),
+            InPlaceFault::Memory => StoreError::Memory,
+            fault => StoreError::Unfit(fault),
+        }
+    }
+}
+
+impl From<Refused> for StoreError {
+    fn from(refused: Refused) -> StoreError {
+        match refused {
+            Refused::Unfit(fault) => StoreError::from(fault),
+            Refused::Damaged(fault) => StoreError::from(fault),
+            Refused::Unwritten(fault) => StoreError::from(fault),
+            refused if refused.may_be_saved() => StoreError::Unsure(refused),
+            refused => StoreError::NotSaved(refused),
+        }
+    }
+}
+
+impl From<DiskFault> for StoreError {
+    fn from(fault: DiskFault) -> StoreError {
+        match fault {
+            DiskFault::Memory => StoreError::Memory,
+            DiskFault::Busy => StoreError::Busy,
+            DiskFault::NotAsOpened | DiskFault::Changed => StoreError::Changed,
+            DiskFault::NoPageFile => StoreError::NoPageFile,
+            fault => StoreError::Unsaved(fault),
+        }
+    }
+}
