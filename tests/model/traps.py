@@ -159,14 +159,16 @@ def link_to_the_file(program, left, alone):
 
 
 def long_name(program, _, alone):
-    """A name of 251 bytes has a log, and one of 252 has none."""
+    """A name of 247 bytes has room for those of a log and a journal, and one of 248 has none; the longest is read."""
     with room_with(program, alone) as room:
-        name = "n" * 251
+        name = "n" * 247
         room.at(PLACE).rename(room.at(name))
         room.wants(["put", name, MORE, "1"], 0, b"new\n")
         room.at(name).rename(room.at(f"{name}n"))
         room.is_let_be(["put", f"{name}n", "k", "v"], "its name leaves no room for that of its log")
-        room.has({**PAIRS, MORE: "1"}, f"{name}n")
+        room.at(f"{name}n").rename(room.at("n" * 255))
+        room.has({**PAIRS, MORE: "1"}, "n" * 255)
+        room.wants(["get", "n" * 255, MORE], 0, b"1\n")
 
 
 def odd_name(program, left, _):

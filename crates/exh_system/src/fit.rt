@@ -8,8 +8,9 @@ use std::io::ErrorKind;
 use std::os::unix::fs::MetadataExt;
 use std::{fs, io};
 
-// A name of a file has at most 255 bytes, that of a log four more than the page file's.
-const NAME_LIMIT: usize = 251;
+// A name of a file has at most 255 bytes. That of a log has four more than the page file's, and that of a journal, which the
+// pager looks for, eight.
+const NAME_LIMIT: usize = 247;
 
 /// Whether an open file is at a path without links, as the system says it.
 ///
