@@ -84,11 +84,20 @@ impl<'r> Store<'r> {
     }
 
     /// Opens one state of the page file of a path to be read, also beside others that change it, and holds nothing of it.
-    /// What is changed of the store isn't committed.
+    /// What is changed of the store isn't committed. It waits five seconds for those that are changing the file.
     ///
     /// Errors: as of `open`.
     pub fn open_read(rt: &'r HostRuntime, path: &str) -> Result<Store<'r>, StoreError> {
-        let opened = read_still(rt, path)?;
+        Store::open_read_within(rt, path, WAIT)
+    }
+
+    /// The same, and waits so many seconds.
+    pub fn open_read_within(
+        rt: &'r HostRuntime,
+        path: &str,
+        seconds: u64,
+    ) -> Result<Store<'r>, StoreError> {
+        let opened = read_still(rt, path, seconds)?;
         Ok(Store {
             rt,
             map: FileMap::new(opened),
