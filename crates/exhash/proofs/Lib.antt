@@ -1,1 +1,2 @@
 pub mod CommitLemmas
+pub mod SizeLemmas
