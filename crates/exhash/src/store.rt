@@ -1,5 +1,5 @@
 //! A page file that is opened whole, and worked on in memory.
-ghost use Rattle.std.specs.Prelude.{◌≡◌, true, [], ◌∷◌, Err, IfErr, IfOk, OnErr, OnOk, length};
+ghost use Rattle.std.specs.Prelude.{◌≡◌, [], ◌∷◌, Err, IfErr, IfOk, IsTrue, OnErr, OnOk, length};
 ghost use Rattle.std.specs.FinMap.{from_entries, len};
 ghost use Rattle.exh_file.specs.FileChange.{HasMap};
 ghost use Rattle.exh_file.specs.Opened.{settings_in};
@@ -54,7 +54,7 @@ impl<'r> Store<'r> {
 
     // Whether it has these settings, and no pairs.
     fn is_new(&mut self, settings: Settings) -> Result<bool, StoreError>
-        ensures new { IfOk result (λ is. is ≡ true → IsNew settings self.new.map) }
+        ensures new { IfOk result (λ is. IsTrue is → IsNew settings self.new.map) }
         ensures file { self.new.file ≡ self.old.file }
     {
         let is_empty = self.pairs()?.len() == 0;
