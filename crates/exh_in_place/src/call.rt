@@ -1,7 +1,7 @@
 //! Calls that a page file of the system answers in place.
 
 use crate::Refused;
-use crate::locked::{Locked, begun, locked_at};
+use crate::locked::{Locked, begin, locked_at};
 use crate::system_files::close;
 use exh_calls::{Call, Reply};
 use exh_paged::{PutIf, call_files, put_files};
@@ -39,7 +39,7 @@ pub fn put_at(
 
 // Answers a call by a page file that is locked.
 fn change_locked(rt: &HostRuntime, locked: &Locked, call: &Call) -> Result<Reply, Refused> {
-    let it = begun(rt, locked)?;
+    let it = begin(rt, locked)?;
     let (changed, files) = call_files(rt.alloc(), it.files, it.options, it.own, call, it.stamp);
     close(rt, locked.whole.as_str(), changed.is_ok(), files);
     Ok(changed?)
@@ -47,7 +47,7 @@ fn change_locked(rt: &HostRuntime, locked: &Locked, call: &Call) -> Result<Reply
 
 // Makes a put in a page file that is locked, or not.
 fn put_locked(rt: &HostRuntime, locked: &Locked, put: &PutIf) -> Result<Reply, Refused> {
-    let it = begun(rt, locked)?;
+    let it = begin(rt, locked)?;
     let (changed, files) = put_files(rt.alloc(), it.files, it.options, it.own, put, it.stamp);
     close(rt, locked.whole.as_str(), changed.is_ok(), files);
     Ok(changed?)

@@ -77,7 +77,7 @@ pub(crate) fn lock_again(
 }
 
 /// Opens a locked page file with its log, if it is fit to be changed in place.
-pub(crate) fn begun(rt: &HostRuntime, locked: &Locked) -> Result<Begun, Refused>
+pub(crate) fn begin(rt: &HostRuntime, locked: &Locked) -> Result<Begun, Refused>
     ensures log { IfOk result (λ begun. IsTrue (file_is_usable Wary.Start begun.files.log)) }
     ensures db { IfOk result (λ begun. IsTrue (file_is_usable Wary.Start begun.files.db)) }
     ensures fresh { IfOk result (λ begun. IsFresh true begun.files.log × IsFresh false begun.files.db) }

@@ -1,4 +1,6 @@
 //! Calls that page files of version 3 answer in place.
+ghost use Rattle.std.specs.Prelude.{IfErr};
+ghost use Rattle.exh_map.specs.Sizes.{IsOther};
 
 use crate::reading::opened_at;
 use exh_calls::{Call, Reply};
@@ -19,7 +21,9 @@ pub(crate) fn changed_at(
     path: &str,
     call: &Call,
     seconds: u64,
-) -> Result<Reply, StoreError> {
+) -> Result<Reply, StoreError>
+    ensures { IfErr result IsOther }
+{
     match change_at(rt, path, call, seconds)? {
         Some(reply) => Ok(reply),
         None => Err(unchanged(rt, path)),
@@ -34,7 +38,9 @@ pub(crate) fn put_if_at(
     path: &str,
     put: &PutIf,
     seconds: u64,
-) -> Result<Reply, StoreError> {
+) -> Result<Reply, StoreError>
+    ensures { IfErr result IsOther }
+{
     match put_at(rt, path, put, seconds)? {
         Some(reply) => Ok(reply),
         None => Err(unchanged(rt, path)),
@@ -42,7 +48,9 @@ pub(crate) fn put_if_at(
 }
 
 // Why the file of a path isn't changed in place, where it isn't a page file of version 3, or isn't opened.
-fn unchanged(rt: &HostRuntime, path: &str) -> StoreError {
+fn unchanged(rt: &HostRuntime, path: &str) -> StoreError
+    ensures { IsOther result }
+{
     match opened_at(rt, path) {
         Ok(file) => unchanged_file(&file),
         Err(fault) => fault,
@@ -50,7 +58,9 @@ fn unchanged(rt: &HostRuntime, path: &str) -> StoreError {
 }
 
 // Why an open file that is no page file of version 3 isn't changed in place.
-fn unchanged_file(file: &File) -> StoreError {
+fn unchanged_file(file: &File) -> StoreError
+    ensures { IsOther result }
+{
     let mut block = [0; BLOCK_LEN];
     match file.read_exact_at(&mut block, 0) {
         Ok(()) => match Header::from_block(version_in(&block), &block) {

@@ -1,4 +1,6 @@
 //! Page files that are read whole.
+ghost use Rattle.std.specs.Prelude.{IfErr};
+ghost use Rattle.exh_map.specs.Sizes.{IsOther};
 
 use exh_file::{FileForm, Opened, open_form};
 use exh_frames::FileStore;
@@ -14,7 +16,9 @@ use std::io::ErrorKind;
 /// Opens the file of a path.
 ///
 /// `Absent`: nothing is there, or an empty file. `Io`: it isn't opened, as one that isn't regular.
-pub(crate) fn opened_at(rt: &HostRuntime, path: &str) -> Result<File, StoreError> {
+pub(crate) fn opened_at(rt: &HostRuntime, path: &str) -> Result<File, StoreError>
+    ensures { IfErr result IsOther }
+{
     match open_regular(rt, path) {
         Ok(file) if file.metadata()?.len() == 0 => Err(StoreError::Absent),
         Ok(file) => Ok(file),
