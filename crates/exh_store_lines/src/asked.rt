@@ -42,12 +42,15 @@ impl<'a> Asked<'a> {
             [] => Err(LineFault::Wrong),
             [word] => plain_of(word),
             [b"direct", path, words @ ..] => direct_of(alloc, path, words),
-            [verb, path, rest @ ..] if verb.starts_with(b"open") || *verb == b"create" => {
-                open_of(verb, path, rest)
-            }
+            [verb, path, rest @ ..] if is_opening(verb) => open_of(verb, path, rest),
             words => call_of(alloc, words),
         }
     }
+}
+
+// Whether a verb is one of `Opening`.
+fn is_opening(verb: &[u8]) -> bool {
+    matches!(verb, b"create" | b"open-or-create" | b"open" | b"open-read")
 }
 
 // A store that is opened in the way that a verb and the words behind a path tell.
