@@ -265,19 +265,19 @@ def one_of_many(program, folder, process, wrongs):
     it left."""
     chance, left, unsure = random.Random(process), {}, {}
     for number in range(COMMITS):
-        key, value = b"p%d-%d" % (process, number % 5), b"%d" % number
+        key, value = bytes([(5 * process + number % 5) * 8 % 256, 1]), b"%d" % number
         with store_run(program, folder) as run:
             if chance.random() < 0.3:
-                lines = [f"direct {PLACE} within 60 put {key.decode()} {value.decode()}"]
+                lines = [f"direct {PLACE} within 60 put {word(key)} {value.decode()}"]
             else:
-                lines = [f"open {PLACE} 60", f"put {key.decode()} {value.decode()}", "close"]
+                lines = [f"open {PLACE} 60", f"put {word(key)} {value.decode()}", "close"]
             if chance.random() < 0.15:
                 threading.Timer(chance.random() * 0.03, run.run.kill).start()
             answers = [run.told(line) for line in lines]
         if any(it is not None and it.startswith(REFUSED) for it in answers):
             wrongs.append(f"process {process}: {answers}")
         if answers[-1] is None:
-            unsure[key] = {unsure.get(key), left.get(key), value}
+            unsure[key] = unsure.get(key, set()) | {left.get(key), value}
         else:
             left[key] = value
             unsure.pop(key, None)

@@ -51,7 +51,7 @@ one= refused: block 2: a byte that must be zero isn't
 one> open order.exh
 one= refused: block 2: records don't rise
 one> open illegal.exh
-one= refused: the page file isn't legal: reason 3
+one= refused: the page file isn't legal: reason 4
 one> get #00
 one= refused: no store is open
 one> create magic.exh 2 0 plain
