@@ -67,10 +67,10 @@ class StoreRun:
         self.seconds = time.monotonic() - self.asked_at
         return line.decode()
 
-    def told(self, line):
+    def told(self, line, seconds=SECONDS):
         """The answer to a call."""
         self.ask(line)
-        return self.answer()
+        return self.answer(seconds)
 
     def waits(self, seconds):
         """Whether nothing is answered for so long."""

@@ -29,7 +29,9 @@ KEYS = 12
 UNSURE = ("may be", "was saved", "is saved", "is in the log")
 # The blocks that are left of a small file system.
 LEFT = range(0, 24, 2)
-PROCESSES, COMMITS = 6, 12
+PROCESSES, COMMITS = 4, 10
+# The seconds for which a process among many waits for the lock, and for its answer.
+WAIT, ANSWERED = 200, 240
 READING = 4
 
 
@@ -75,6 +77,12 @@ ERRANDS = {
         {f"put {word(key)} w": f"was {value.decode()}" for key, value in PAIRS.items()}, dict.fromkeys(PAIRS, b"w")
     ),
 }
+
+# Which commits have each growth refused, and which each call, by the file's version.
+GROWING = ((3, "a put that splits"), (2, "a put of a value"))
+CALLING = (*((3, name) for name in ERRANDS), (2, "a put that splits"))
+# The number of a growth that no run asks for.
+NEVER = 10**9
 
 
 def pairs_at(folder, name=PLACE):
@@ -174,7 +182,8 @@ def after_a_fault(run, errand):
 def calls(shims, program, report):
     """A commit of each errand once for each call of the system about the file, with the run killed there, and with the call
     failing."""
-    for version, (name, errand) in itertools.product(FILES, ERRANDS.items()):
+    for version, name in CALLING:
+        errand = ERRANDS[name]
         lines = {f"open {PLACE} 0": "done", **errand.lines, "commit": "done"}
         count = calls_of(program, shims["refuse_call"], {PLACE: FILES[version]}, lines)
         for nth, error in itertools.product(range(1, count + 1), WAYS):
@@ -185,19 +194,40 @@ def calls(shims, program, report):
 # ---- growths of memory
 
 
-def grown(program, library, version, errand, nth):
-    """One growth of memory is refused: what is wrong; else whether one was."""
+def growing_run(program, library, folder, tells, growth, **environment):
+    """A run of which the growth of this number is refused."""
+    refusing = {"REFUSED_GROWTH": str(growth), "REFUSED_TELLS": str(tells.fileno()), **environment}
+    return store_run(program, folder, [tells.fileno()], LD_PRELOAD=library, **refusing)
+
+
+def growths_of(program, library, version, lines):
+    """How many growths of memory a run asks for."""
     with tempfile.TemporaryDirectory(dir=MEMORY) as folder, tempfile.TemporaryFile() as tells:
         laid({PLACE: FILES[version]}, folder)
-        refusing = {"REFUSED_GROWTH": str(nth), "REFUSED_TELLS": str(tells.fileno())}
-        lines = {f"open {PLACE} 0": "done", **errand.lines, "len": f"len {len(errand.left)}", "commit": "done"}
-        with store_run(program, folder, [tells.fileno()], LD_PRELOAD=library, **refusing) as run:
-            ended = not all(asked_again(run, line, wanted) for line, wanted in lines.items())
-        if not ended and pairs_at(folder) != errand.left:
-            raise Wrong("the pairs aren't those from after")
-        see_next(program, folder, [PAIRS, errand.left] if ended else [errand.left])
+        with growing_run(program, library, folder, tells, NEVER, REFUSED_COUNTS="1") as run:
+            asked(run, lines)
+            run.end()
         tells.seek(0)
-        return tells.read() != b""
+        return int(tells.read())
+
+
+def grown(program, library, version, errand, nth):
+    """One growth of memory is refused: what is wrong, or None."""
+    with tempfile.TemporaryDirectory(dir=MEMORY) as folder, tempfile.TemporaryFile() as tells:
+        laid({PLACE: FILES[version]}, folder)
+        try:
+            with growing_run(program, library, folder, tells, nth) as run:
+                ended = not all(asked_again(run, line, wanted) for line, wanted in growing_lines(errand).items())
+            if not ended and pairs_at(folder) != errand.left:
+                return "the pairs aren't those from after"
+            see_next(program, folder, [PAIRS, errand.left] if ended else [errand.left])
+        except Wrong as what:
+            return str(what)
+    return None
+
+
+def growing_lines(errand):
+    return {f"open {PLACE} 0": "done", **errand.lines, "len": f"len {len(errand.left)}", "commit": "done"}
 
 
 def asked_again(run, line, wanted):
@@ -213,17 +243,12 @@ def asked_again(run, line, wanted):
 
 
 def growths(shims, program, report):
-    """A commit of each errand once for each growth of memory, which is refused: a call that says so left all as it was, and is
-    then done."""
-    for version, (name, errand) in itertools.product(FILES, ERRANDS.items()):
-        for nth in itertools.count(1):
-            try:
-                wrong, was_refused = None, grown(program, shims["refuse_growth"], version, errand, nth)
-            except Wrong as what:
-                wrong, was_refused = str(what), True
-            if not was_refused:
-                break
-            report(f"{name}, version {version}, growth {nth}", lambda wrong=wrong: wrong)
+    """A commit once for each growth of memory, which is refused: a call that says so left all as it was, and is then done."""
+    for version, name in GROWING:
+        count = growths_of(program, shims["refuse_growth"], version, growing_lines(ERRANDS[name]))
+        for nth in range(1, count + 1):
+            told = f"{name}, version {version}, growth {nth} of {count}"
+            report(told, grown, program, shims["refuse_growth"], version, ERRANDS[name], nth)
 
 
 # ---- full disks
@@ -232,8 +257,8 @@ def growths(shims, program, report):
 def full_disk(_, program, report):
     """A disk with room for so many blocks: a commit that needs more says so, leaves the file as it was and the store its
     pairs, and is done once there is room."""
-    for version, (name, errand), left in itertools.product(FILES, ERRANDS.items(), LEFT):
-        report(f"{name}, version {version}, {left} blocks left", filled, program, version, errand, left)
+    for (version, name), left in itertools.product(CALLING, LEFT):
+        report(f"{name}, version {version}, {left} blocks left", filled, program, version, ERRANDS[name], left)
 
 
 def filled(program, version, errand, left):
@@ -268,12 +293,12 @@ def one_of_many(program, folder, process, wrongs):
         key, value = bytes([(5 * process + number % 5) * 8 % 256, 1]), b"%d" % number
         with store_run(program, folder) as run:
             if chance.random() < 0.3:
-                lines = [f"direct {PLACE} within 60 put {word(key)} {value.decode()}"]
+                lines = [f"direct {PLACE} within {WAIT} put {word(key)} {value.decode()}"]
             else:
-                lines = [f"open {PLACE} 60", f"put {word(key)} {value.decode()}", "close"]
+                lines = [f"open {PLACE} {WAIT}", f"put {word(key)} {value.decode()}", "close"]
             if chance.random() < 0.15:
                 threading.Timer(chance.random() * 0.03, run.run.kill).start()
-            answers = [run.told(line) for line in lines]
+            answers = [run.told(line, ANSWERED) for line in lines]
         if any(it is not None and it.startswith(REFUSED) for it in answers):
             wrongs.append(f"process {process}: {answers}")
         if answers[-1] is None:
@@ -302,7 +327,7 @@ def many_at_once(program):
         if told or len(wrongs) != PROCESSES:
             return told[0] if told else "a process failed"
         with store_run(program, folder) as run:
-            asked(run, {f"open {PLACE} 60": "done"})
+            asked(run, {f"open {PLACE} 0": "done"})
             run.end()
         has = pairs_at(folder)
         for left, unsure in wrongs:

@@ -31,6 +31,18 @@ one> direct people.exh remove ann
 one= none
 one> direct people.exh get ann
 one= none
+one> direct people.exh replace ann red
+one= none
+one> direct people.exh put-new ann red
+one= new
+one> direct people.exh put-new ann blue
+one= is red
+one> direct people.exh replace ann blue
+one= was red
+! pairs people.exh
+= ann blue
+one> direct people.exh remove ann
+one= was blue
 one> direct people.exh put #00ff0a #
 one= new
 one> direct people.exh get #00ff0a
@@ -43,6 +55,10 @@ one= is b
 one> direct old.exh remove #80
 one= refused: the page file is of a version that isn't changed in place
 one> direct old.exh put #80 c
+one= refused: the page file is of a version that isn't changed in place
+one> direct old.exh put-new #81 c
+one= refused: the page file is of a version that isn't changed in place
+one> direct old.exh replace #80 c
 one= refused: the page file is of a version that isn't changed in place
 ! same old.exh before.exh
 ! files

@@ -27,7 +27,7 @@ two> get ann
 two= is red
 one> open people.exh 0
 one= refused: another process is at work on it
-one> open people.exh 9
+one> open people.exh 60
 ! waits one
 ! kill two
 one= done

@@ -9,12 +9,28 @@ two> direct people.exh get ann
 two= is red
 two> direct people.exh put ann blue
 two= refused: another process is at work on it
-two> direct people.exh remove ann
+! took two 4.5 9
+two> direct people.exh within 0 remove ann
 two= refused: another process is at work on it
+! took two 0 0.9
+two> direct people.exh within 1 put-new bob blue
+two= refused: another process is at work on it
+! took two 0.9 4
+two> direct people.exh within 0 replace ann blue
+two= refused: another process is at work on it
+two> direct people.exh within 0 swap ann red blue
+two= refused: another process is at work on it
+two> direct people.exh within 60 put ann red
+! waits two
+one> put ann pink
+one= was red
+one> commit
+one= done
 ! pairs people.exh
-= ann red
+= ann pink
 one> drop
 one= done
+two= was pink
 two> direct people.exh put ann blue
 two= was red
 ! exhash put people.exh bob grey

@@ -24,13 +24,14 @@ two= none
 ! pairs three.exh
 = @ x
 = #80 b
-# Beside a store that has changes of its own a reader has what was committed.
+# Beside a store that has changes of its own a reader has what was committed, at once.
 two> open three.exh 0
 two= done
 two> put @ y
 two= was x
-one> open-read three.exh
+one> open-read three.exh 0
 one= done
+! took one 0 0.9
 one> pairs
 one= pairs @ x #80 b
 two> commit
