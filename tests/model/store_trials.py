@@ -25,8 +25,9 @@ from .version import CURRENT
 
 WAYS = {KILL: "killed", errno.ENOSPC: "no room", errno.EIO: "a fault of the device"}
 KEYS = 12
-# What is said of a change that is saved or not, which the next opening tells.
-UNSURE = ("may be", "was saved", "is saved", "is in the log")
+# What is said of a change that is saved, and of one that is saved or not, which the next opening tells. A store that was told
+# one of these commits no more.
+SAVED, UNSURE = REFUSED + "the change was saved", REFUSED + "the change may have been saved"
 # The blocks that are left of a small file system.
 LEFT = range(0, 24, 2)
 PROCESSES, COMMITS = 4, 10
@@ -169,14 +170,19 @@ def after_a_fault(run, errand):
     if opened != "done" or not asked(run, errand.lines):
         raise Wrong(f"open: {opened!r}")
     committed = run.told("commit")
-    if committed is None:
-        return [PAIRS, errand.left]
-    if committed == "done":
-        return [errand.left]
-    # The store has its pairs all the same, and whatever comes of a second commit is no less than the first.
+    return [PAIRS, errand.left] if committed is None else committed_again(run, errand, committed)
+
+
+def committed_again(run, errand, committed):
+    """What a commit came to of which a call failed: the store has its pairs all the same, and where nothing was saved a second
+    commit is done. Which pairs the next one may find."""
     asked(run, {"len": f"len {len(errand.left)}"})
     again = run.told("commit")
-    return [errand.left] if again == "done" else [PAIRS, errand.left]
+    if again == "done" or committed == "done" or committed.startswith(SAVED):
+        return [errand.left]
+    if not committed.startswith(UNSURE):
+        raise Wrong(f"a second commit: {again}, after {committed}")
+    return [PAIRS, errand.left]
 
 
 def calls(shims, program, report):
@@ -268,15 +274,10 @@ def filled(program, version, errand, left):
             asked(run, {f"open {PLACE} 0": "done", **errand.lines})
             fill(filler, left)
             committed = run.told("commit")
-            if committed != "done" and not committed.startswith(REFUSED):
-                raise Wrong(f"commit: {committed!r}")
             filler.unlink()
-            asked(run, {"len": f"len {len(errand.left)}"})
-            again = run.told("commit")
+            allowed = committed_again(run, errand, committed)
             run.end()
-            see_next(program, room.folder, [errand.left] if "done" in (committed, again) else [PAIRS, errand.left])
-            if again != "done":
-                return f"a commit once there was room: {again}, after {committed}"
+            see_next(program, room.folder, allowed)
         except Wrong as what:
             return str(what)
     return None
