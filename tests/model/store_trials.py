@@ -8,7 +8,6 @@ import os
 import random
 import tempfile
 import threading
-import time
 from pathlib import Path
 from typing import NamedTuple
 
@@ -33,7 +32,8 @@ LEFT = range(0, 24, 2)
 PROCESSES, COMMITS = 4, 10
 # The seconds for which a process among many waits for the lock, and for its answer.
 WAIT, ANSWERED = 200, 240
-READING = 4
+# How often a file is read beside a store, which commits at least so often meanwhile.
+READINGS, LEAST = 20, 3
 
 
 def key_of(number):
@@ -346,31 +346,30 @@ def readers(_, program, report):
 def reading(program):
     with tempfile.TemporaryDirectory(dir=MEMORY) as folder:
         laid({PLACE: placed_file(file_with(dict.fromkeys(PAIRS, b"v0")), DRAWN)}, folder)
-        wrongs, count = [], [0]
-        thread = threading.Thread(target=reads, args=(program, folder, time.monotonic() + READING, wrongs, count))
+        wrongs, number = [], 0
+        thread = threading.Thread(target=reads, args=(program, folder, wrongs))
         with store_run(program, folder) as run:
             asked(run, {f"open {PLACE} 0": "done"})
             thread.start()
-            number = 0
             while thread.is_alive():
                 number += 1
                 asked(run, {f"put {word(key)} v{number}": f"was v{number - 1}" for key in PAIRS})
                 asked(run, {"commit": "done"})
             thread.join()
             run.end()
-    if not wrongs and (count[0] < 5 or number < 5):
-        return f"only {count[0]} readings beside {number} commits"
+    if not wrongs and number < LEAST:
+        return f"only {number} commits"
     return wrongs[0] if wrongs else None
 
 
-def reads(program, folder, end, wrongs, count):
-    while time.monotonic() < end and not wrongs:
+def reads(program, folder, wrongs):
+    for _ in range(READINGS):
         with store_run(program, folder) as run:
-            opened, pairs = run.told(f"open-read {PLACE}"), run.told("pairs")
+            opened, pairs = run.told(f"open-read {PLACE} 60"), run.told("pairs")
         values = set((pairs or "").split(" ")[2::2])
         if opened != "done" or len(values) != 1:
             wrongs.append(f"a reader: {opened}, {pairs}")
-        count[0] += 1
+            return
 
 
 TRIALS = {"calls": calls, "growths": growths, "full disk": full_disk, "processes": processes, "readers": readers}

@@ -12,10 +12,10 @@ one> other create people.exh 2 0 plain
 one= refused: something is there already
 two> open people.exh 0
 two= refused: another process is at work on it
-! took two 0 0.9
+! took two 0 3
 two> open people.exh 1
 two= refused: another process is at work on it
-! took two 0.9 4
+! took two 0.9 4.5
 two> open-or-create people.exh 2 0 plain
 ! waits two
 one> put ann red
@@ -36,4 +36,4 @@ one= is red
 # What is usual are five seconds.
 two> open people.exh
 two= refused: another process is at work on it
-! took two 4.5 9
+! took two 4.5 30

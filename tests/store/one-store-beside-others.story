@@ -9,13 +9,13 @@ two> direct people.exh get ann
 two= is red
 two> direct people.exh put ann blue
 two= refused: another process is at work on it
-! took two 4.5 9
+! took two 4.5 30
 two> direct people.exh within 0 remove ann
 two= refused: another process is at work on it
-! took two 0 0.9
+! took two 0 3
 two> direct people.exh within 1 put-new bob blue
 two= refused: another process is at work on it
-! took two 0.9 4
+! took two 0.9 4.5
 two> direct people.exh within 0 replace ann blue
 two= refused: another process is at work on it
 two> direct people.exh within 0 swap ann red blue

@@ -31,7 +31,7 @@ two> put @ y
 two= was x
 one> open-read three.exh 0
 one= done
-! took one 0 0.9
+! took one 0 3
 one> pairs
 one= pairs @ x #80 b
 two> commit
