@@ -3,6 +3,8 @@
 #![tactic(auto)]
 
 pub use call_change::call_files;
+pub use call_file::CallFile;
+pub use calls_change::{Answered, answer_over, calls_files};
 pub use draft_change::save_files;
 pub use files_change::change_files;
 pub use files_fault::FilesFault;
@@ -10,6 +12,8 @@ pub use recovery::recover_files;
 pub use save_files_fault::SaveFilesFault;
 
 mod call_change;
+mod call_file;
+mod calls_change;
 mod draft_change;
 mod draft_edits;
 #[cfg(test)]
