@@ -20,6 +20,10 @@ pub AreInTurn-prop : (first : ℕ) (edits : List BlockEdit) (count : ℕ) → Is
 AreInTurn-prop first [] count = Coded-set coded_ℕ count first
 AreInTurn-prop first (edit ∷ edits) count = ×_prop le_prop (AreInTurn-prop (max first (edit.place + 1)) edits count)
 
+-- the block of the edit of a place
+abbrev pub HasBlock : List BlockEdit → ℕ → List ℕ → Type 0
+HasBlock edits place block = (index : ℕ) × (edit : BlockEdit) × (slice_get edits index ≡ Some edit) × (edit.place ≡ place) × (edit.block ≡ block)
+
 -- the edit stands in the place of the one of its place, or behind the others
 pub record IsAgain (old : List BlockEdit) (edit : BlockEdit) (new : List BlockEdit) : Type 0 where
   pub index : ℕ

@@ -1,8 +1,19 @@
+ghost use Rattle.std.specs.Prelude.{◌≡◌, ℕ, List, Some, IfOk, MatchResult};
+ghost use Rattle.exh_table.specs.Table.{TableMap};
+ghost use Rattle.exh_format.specs.Reading.{AreBytes};
+ghost use Rattle.exh_cells.specs.LegalPlaced.{IsLegalPlacedFile};
+ghost use Rattle.exh_cells.specs.PlacedFile.{PlacedFile};
+ghost use Rattle.exh_direct.specs.DirectLaws.{IsOtherFault};
+ghost use Rattle.exh_edits.specs.EditLists.{HaveOwnPlaces};
+ghost use Rattle.exh_change.specs.ChangeLaws.{map_then, reply_in};
+ghost use Rattle.exh_batch.specs.Batch.{IsChangeByAll, map_then_all, replies_in};
+ghost use Rattle.exh_batch.specs.Overlay.{shown};
+ghost use Rattle.exh_batch.specs.Steps.{IsReached, IsStampedLast};
+
 use crate::changed::ChangedAll;
 use crate::overlay::Overlay;
 use crate::under::Under;
 use exh_calls::{Call, Reply};
-use exh_cells::StampedHeader;
 use exh_change::change;
 use exh_direct::{Blocks, DirectFault};
 use exh_format::push_item;
@@ -20,7 +31,11 @@ pub fn change_all<B: Blocks>(
     blocks: &mut B,
     calls: &[Call],
     stamp: u64,
-) -> Result<ChangedAll, DirectFault> {
+) -> Result<ChangedAll, DirectFault>
+    ensures own { IfOk result (λ changed. HaveOwnPlaces changed.edits.items) }
+    ensures legal { (file : PlacedFile) (tables : List TableMap) (bytes : List ℕ) → B.known blocks.old ≡ Some bytes → AreBytes bytes → IsLegalPlacedFile file tables bytes
+        → MatchResult result (IsChangeByAll file bytes calls.now stamp) IsOtherFault }
+{
     change_over::<B, Brand>(alloc, blocks, calls, stamp)
 }
 
@@ -30,14 +45,19 @@ fn change_over<B: Blocks, K: Under>(
     blocks: &mut B,
     calls: &[Call],
     stamp: u64,
-) -> Result<ChangedAll, DirectFault> {
+) -> Result<ChangedAll, DirectFault>
+    requires { B.known blocks.old ≡ K.known }
+    ensures own { IfOk result (λ changed. HaveOwnPlaces changed.edits.items) }
+    ensures legal { (file : PlacedFile) (tables : List TableMap) (bytes : List ℕ) → K.known ≡ Some bytes → AreBytes bytes → IsLegalPlacedFile file tables bytes
+        → MatchResult result (IsChangeByAll file bytes calls.now stamp) IsOtherFault }
+{
     let mut overlay = Overlay::<B, K>::new(alloc, blocks);
-    let own = overlay.header()?.stamp;
+    let header = overlay.header()?;
     let replies = answer_all(alloc, &mut overlay, calls, stamp)?;
-    let stamp = restamp(&mut overlay, own, stamp)?;
+    let now = restamp(&mut overlay, header.stamp, stamp)?;
     Ok(ChangedAll {
         replies,
-        stamp,
+        stamp: now,
         edits: overlay.into_edits(),
     })
 }
@@ -48,7 +68,10 @@ fn answer_all<B: Blocks, K: Under>(
     overlay: &mut Overlay<'_, B, K>,
     calls: &[Call],
     stamp: u64,
-) -> Result<Vec<Reply>, DirectFault> {
+) -> Result<Vec<Reply>, DirectFault>
+    ensures legal { (file : PlacedFile) (tables : List TableMap) (bytes : List ℕ) → shown K.known overlay.old.edits.items.items ≡ Some bytes → AreBytes bytes → IsLegalPlacedFile file tables bytes
+        → MatchResult result (λ replies. IsReached file (map_then_all file calls.now) (shown K.known overlay.new.edits.items.items) × (replies.items ≡ replies_in file calls.now)) IsOtherFault }
+{
     let mut replies = Vec::new(alloc);
     for call in calls {
         let reply = answer(alloc, overlay, call, stamp)?;
@@ -63,7 +86,11 @@ fn answer<B: Blocks, K: Under>(
     overlay: &mut Overlay<'_, B, K>,
     call: &Call,
     stamp: u64,
-) -> Result<Reply, DirectFault> {
+) -> Result<Reply, DirectFault>
+    ensures legal { (file : PlacedFile) (tables : List TableMap) (bytes : List ℕ) → shown K.known overlay.old.edits.items.items ≡ Some bytes → AreBytes bytes → IsLegalPlacedFile file tables bytes
+        → MatchResult result (λ reply. IsReached file (map_then file call.now) (shown K.known overlay.new.edits.items.items) × (reply ≡ reply_in file call.now)) IsOtherFault }
+{
+    exh_edits::edited_blocks_stand();
     let changed = change(alloc, overlay, call, stamp)?;
     overlay.put_all(&changed.edits)?;
     Ok(changed.reply)
@@ -74,16 +101,18 @@ fn restamp<B: Blocks, K: Under>(
     overlay: &mut Overlay<'_, B, K>,
     own: u64,
     stamp: u64,
-) -> Result<u64, DirectFault> {
-    let header = overlay.header()?;
-    if overlay.edits.items.is_empty() {
+) -> Result<u64, DirectFault>
+    ensures legal { (file : PlacedFile) (tables : List TableMap) (bytes : List ℕ) → shown K.known overlay.old.edits.items.items ≡ Some bytes → IsLegalPlacedFile file tables bytes
+        → MatchResult result (IsStampedLast file own stamp (shown K.known overlay.new.edits.items.items) overlay.new.edits.items.items) IsOtherFault }
+{
+    exh_edits::headers_change();
+    exh_steps::stamps_keep_legal();
+    let mut header = overlay.header()?;
+    if overlay.edits.items.len() == 0 {
         return Ok(header.stamp);
     }
-    overlay.put_header(&StampedHeader {
-        settings: header.settings,
-        page_counts: header.page_counts,
-        stamp,
-        before: own,
-    })?;
+    header.stamp = stamp;
+    header.before = own;
+    overlay.put_header(&header)?;
     Ok(stamp)
 }

@@ -39,34 +39,16 @@ impl OpenFile {
         }
     }
 
-    /// Answers a call, and gives the file back: what the call changed stands in the file.
-    ///
-    /// Errors: as of `change_at`.
-    pub fn call(self, rt: &HostRuntime, call: &Call) -> (Result<Reply, Refused>, OpenFile) {
-        let stamp = match self.new_stamp(rt) {
-            Ok(stamp) => stamp,
-            Err(refused) => return (Err(refused), self),
-        };
-        let (answer, file) = self.file.call(rt.alloc(), call, stamp);
-        let is_settled = is_settled_by(self.is_settled, &answer);
-        let after = OpenFile {
-            locked: self.locked,
-            file,
-            is_settled,
-        };
-        match answer {
-            Ok(reply) => (Ok(reply), after),
-            Err(fault) => (Err(Refused::from(FilesFault::Change(fault))), after),
-        }
-    }
-
     /// Answers calls as one change, and gives the file back: what they changed stands in the file.
     ///
     /// Errors: as of `change_at`.
     pub fn calls(self, rt: &HostRuntime, calls: &[Call]) -> (Result<Vec<Reply>, Refused>, OpenFile) {
-        let stamp = match self.new_stamp(rt) {
+        if !self.file.is_ready() {
+            return (Err(Refused::Change(ChangeFault::Open(Error::Closed))), self);
+        }
+        let stamp = match draw_stamp(rt) {
             Ok(stamp) => stamp,
-            Err(refused) => return (Err(refused), self),
+            Err(error) => return (Err(Refused::from(error)), self),
         };
         let (answer, file) = self.file.calls(rt.alloc(), calls, stamp);
         let is_settled = is_settled_by(self.is_settled, &answer);
@@ -79,14 +61,6 @@ impl OpenFile {
             Ok(answered) => (Ok(answered.replies), after),
             Err(fault) => (Err(Refused::from(FilesFault::Change(fault))), after),
         }
-    }
-
-    // A new stamp, where the file takes another change.
-    fn new_stamp(&self, rt: &HostRuntime) -> Result<u64, Refused> {
-        if !self.file.is_ready() {
-            return Err(Refused::Change(ChangeFault::Open(Error::Closed)));
-        }
-        Ok(draw_stamp(rt)?)
     }
 
     /// Lets the file go, and removes its log where the file alone has all.

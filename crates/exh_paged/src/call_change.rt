@@ -24,9 +24,9 @@ use std::alloc::Global;
 
 // A call over a page file of version 3, which gets the stamp where it changes.
 #[derive(Drop)]
-pub(crate) struct CallChange<'c> {
-    pub(crate) call: &'c Call,
-    pub(crate) stamp: u64,
+struct CallChange<'c> {
+    call: &'c Call,
+    stamp: u64,
 }
 
 impl Changer for CallChange<'_> {

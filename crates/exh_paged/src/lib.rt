@@ -2,15 +2,18 @@
 //! crash leaves the pairs from before or those from after.
 #![tactic(auto)]
 
+pub use answered::Answered;
 pub use call_change::call_files;
 pub use call_file::CallFile;
-pub use calls_change::{Answered, answer_over, calls_files};
+pub use calls_change::calls_files;
 pub use draft_change::save_files;
 pub use files_change::change_files;
 pub use files_fault::FilesFault;
 pub use recovery::recover_files;
 pub use save_files_fault::SaveFilesFault;
+pub use state_calls::answer_over;
 
+mod answered;
 mod call_change;
 mod call_file;
 mod calls_change;
@@ -25,3 +28,4 @@ mod own_log;
 mod recovery;
 mod save_files_fault;
 mod saving;
+mod state_calls;
