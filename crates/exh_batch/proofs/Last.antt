@@ -1,5 +1,5 @@
 -- The change that all calls make.
-use Rattle.std.proofs.Common.{◌≡◌, ℕ, List, [], Option, None, Some, inl, inr, refl, sym, ap, ◌∙◌, subst}
+use Rattle.std.proofs.Common.{◌≡◌, ℕ, List, [], Option, Some, inl, inr, sym, ap, ◌∙◌, subst}
 use Rattle.exh_calls.specs.declared.call.Call.{Call}
 use Rattle.exh_cells.specs.LegalPlaced.{IsLegalPlacedFile}
 use Rattle.exh_cells.specs.PlacedFile.{PlacedFile}

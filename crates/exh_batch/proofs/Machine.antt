@@ -1,12 +1,11 @@
 -- Calls one after the other over the map machine, and the bytes after edits.
-use Rattle.std.proofs.Common.{◌≡◌, ℕ, ◌+◌, ◌*◌, ◌≤◌, ◌<◌, List, [], ◌∷◌, ◌++◌, length, take, drop, get_or, Option, None, Some, refl, sym, ap, ◌∙◌, subst, arith}
+use Rattle.std.proofs.Common.{◌≡◌, ℕ, ◌+◌, ◌*◌, ◌≤◌, ◌<◌, List, [], ◌∷◌, ◌++◌, length, take, drop, get_or, Option, Some, refl, sym, ap, ◌∙◌, subst, arith}
 use Rattle.std.specs.List.{AllByRecursion}
 use Rattle.std.specs.Option.{option_map}
 use Rattle.std.proofs.lemmas.List.{length-map, length-take, take-append-drop, take-take, take_all, take_more}
 use Rattle.exh_keyer.specs.Pseudokey.{any_pseudokey}
 use Rattle.exh_prefix.specs.PrefixListLemmas.{AllByRecursion-append, AllByRecursion-append_left, AllByRecursion-append_right}
 use Rattle.exh_table.specs.Table.{TableMap}
-use Rattle.exh_page.specs.declared.page.Page.{Page}
 use Rattle.exh_page.specs.KeyMap.{KeyMap}
 use Rattle.exh_page.specs.Page.{low_bound}
 use Rattle.exh_calls.specs.declared.call.Call.{Call}

@@ -1,10 +1,9 @@
 -- The blocks of a file with edits.
-use Rattle.std.proofs.Common.{◌≡◌, ℕ, suc, ◌+◌, ◌*◌, ◌/◌, ◌≤◌, max, List, [], ◌∷◌, ◌++◌, length, slice_get, slice_set, Option, None, Some, IfSome, inl, inr, refl, sym, ap, ◌∙◌, subst, arith}
+use Rattle.std.proofs.Common.{◌≡◌, ℕ, suc, ◌+◌, ◌/◌, ◌≤◌, max, List, [], ◌∷◌, ◌++◌, length, slice_set, Option, None, Some, inl, inr, refl, sym, ap, ◌∙◌, subst, arith}
 use Rattle.exh_format.specs.FileTests.{IsWhole, block_at}
 use Rattle.exh_direct.specs.KnownBlocks.{IsBlockAt, IsCount}
 use Rattle.exh_edits.specs.declared.block_edit.BlockEdit.{BlockEdit}
 use Rattle.exh_edits.specs.BlockEdits.{with_block, with_edits}
-use Rattle.exh_edits.specs.EditLaws.{StandsAt}
 use Rattle.exh_edits.specs.EditLists.{AreEditsOf, AreEditsTo, EditedBlocksAreFound, EditsArePushed, EditsArePut, HaveOwnPlaces, IsUnedited, UneditedAreKept}
 use Rattle.exh_edits.specs.EditsInTurn.{AreInTurn}
 use Rattle.exh_edits.specs.EditsKeepOthers.{IsEditOf, LengthsGrow}

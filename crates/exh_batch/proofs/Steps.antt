@@ -1,5 +1,5 @@
 -- Headers that are read and put, and refusals.
-use Rattle.std.proofs.Common.{◌≡◌, ◌≢◌, ℕ, ◌+◌, ◌*◌, ◌≤◌, List, [], ◌∷◌, length, take, take_all, Option, None, Some, Result, Ok, Err, inl, inr, refl, sym, ap, ◌∙◌, subst, arith}
+use Rattle.std.proofs.Common.{◌≡◌, ℕ, List, [], ◌∷◌, length, take_all, Option, Some, Result, Ok, Err, inl, inr, refl, sym, ap, ◌∙◌, subst, arith}
 use Rattle.std.specs.List.{sum}
 use Rattle.std.specs.Option.{option_map}
 use Rattle.std.specs.Prelude.{IsErrAnd, MatchResult}
@@ -20,7 +20,6 @@ use Rattle.exh_edits.specs.BlockEdits.{with_block}
 use Rattle.exh_edits.specs.EditLaws.{HeadersChange, HeadersStand}
 use Rattle.exh_edits.specs.PlacedEdits.{with_header}
 use Rattle.exh_steps.specs.StepLaws.{StampsKeepLegal}
-use Rattle.exh_walked.specs.PlacedLaws.{map_in}
 use Rattle.exh_batch.specs.Steps.{IsStampedLast}
 
 -- ---- refusals

@@ -1,5 +1,5 @@
 -- Edits that are found by their places.
-use Rattle.std.specs.Prelude.{◌≡◌, ◌⊎◌, ℕ, ◌+◌, ◌≤◌, List, [], ◌∷◌, ◌++◌, Option, Some, length, max, slice_get, slice_set}
+use Rattle.std.specs.Prelude.{◌≡◌, ◌⊎◌, ℕ, ◌+◌, List, [], ◌∷◌, ◌++◌, Some, length, max, slice_get, slice_set}
 use Rattle.std.specs.BTreeMap.{is_at}
 use Rattle.std.specs.Coded.{×_prop, Coded-set, coded_ℕ, le_prop}
 use Rattle.std.specs.Map.{lookup}

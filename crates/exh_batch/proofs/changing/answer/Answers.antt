@@ -1,4 +1,4 @@
-use Rattle.std.proofs.Common.{◌≡◌, ◌/◌, ℕ, List, Option, length, sym, ◌∙◌, subst, ap}
+use Rattle.std.proofs.Common.{◌≡◌, ◌/◌, ℕ, List, Option, length, sym, ◌∙◌, subst}
 use Rattle.exh_direct.specs.KnownBlocks.{IsCount}
 use Rattle.exh_edits.specs.declared.block_edit.BlockEdit.{BlockEdit}
 use Rattle.exh_edits.specs.EditsInTurn.{AreInTurn}

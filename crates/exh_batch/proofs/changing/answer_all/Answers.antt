@@ -1,4 +1,4 @@
-use Rattle.std.proofs.Common.{◌≡◌, ◌+◌, ◌++◌, ◌∷◌, [], ℕ, List, take, take_all, sym, subst, ◌∙◌, ap, arith}
+use Rattle.std.proofs.Common.{◌≡◌, ◌+◌, ◌++◌, ◌∷◌, [], List, take, take_all, sym, subst, ◌∙◌, ap, arith}
 use Rattle.exh_calls.specs.declared.call.Call.{Call}
 use Rattle.exh_batch.specs.Batch.{map_then_all, replies_in}
 use Rattle.exh_batch.specs.Overlay.{shown}

@@ -1,4 +1,4 @@
-use Rattle.std.proofs.Common.{◌≡◌, ◌∙◌}
+use Rattle.std.proofs.Common.{◌≡◌}
 use Rattle.exh_batch.specs.Overlay.{shown}
 use Rattle.exh_batch.proofs.Steps.{cut_off, header_read, other_fault}
 use Rattle.exh_batch.proofs.overlay.Overlay.header.Goals as goal

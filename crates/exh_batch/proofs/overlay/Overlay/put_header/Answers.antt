@@ -1,7 +1,6 @@
-use Rattle.std.proofs.Common.{◌≡◌, List, ℕ, Result, Ok, Err, OnOk, IfErr, ap, ◌∙◌, sym, arith}
+use Rattle.std.proofs.Common.{◌≡◌, List, ℕ, ap, ◌∙◌}
 use Rattle.std.specs.Option.{option_map}
 use Rattle.exh_cells.specs.PlacedFile.{stamped_block}
-use Rattle.exh_direct.specs.DirectLaws.{IsOtherFault}
 use Rattle.exh_edits.specs.BlockEdits.{with_block}
 use Rattle.exh_batch.specs.Overlay.{shown}
 use Rattle.exh_batch.proofs.Made.{on_ok_more}
