@@ -8,5 +8,7 @@ pub use changing::change_all;
 mod changed;
 mod changing;
 mod edit_index;
+#[cfg(test)]
+mod examples;
 mod overlay;
 mod under;
