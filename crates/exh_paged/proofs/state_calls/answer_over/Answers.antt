@@ -1,4 +1,5 @@
 use Rattle.std.proofs.Common.{◌≡◌, ℕ, List, sym, subst, inl}
+use Rattle.sqlite_wal.specs.Reads.{AreClean}
 use Rattle.exh_format.specs.Reading.{AreBytes}
 use Rattle.exh_cells.specs.LegalPlaced.{IsLegalPlacedFile}
 use Rattle.exh_cells.specs.PlacedFile.{PlacedFile}
@@ -30,7 +31,7 @@ returns-in-Ok-answered-clause-crash g c old found file tables bytes_are legal =
     let end = files_in c.calls-answered.result.1.file in
     let mid = bytes_in c.in-Ok.file.file in
     let Was = AreOldOrCalled g.D.Truthful.is_truthful file c.args.calls.now in
-    let same = λ clean. c.in-Ok.ensures.one (c.calls-answered.ensures.honest clean) old found in
+    let same : AreClean g.D.Disk end.0 end.1 → mid ≡ old = λ clean. c.in-Ok.ensures.one (c.calls-answered.ensures.honest clean) old found in
     leaves_as g.D.Disk end (c.close-files.result.log, c.close-files.result.db) Was mid old c.close-files.ensures same
     (leaves_if g.D.Disk end (Was mid) (λ clean. let it = were mid old (same clean) file tables bytes_are legal in c.calls-answered.ensures.crash file tables it.0 it.1))
 
@@ -39,7 +40,7 @@ returns-in-Ok-answered-clause-ok g c old found file tables bytes_are legal =
     let end = files_in c.calls-answered.result.1.file in
     let mid = bytes_in c.in-Ok.file.file in
     let Was = AreReplied g.D.Truthful.is_truthful file c.args.calls.now c.in-Ok-answered.answered in
-    let same = λ clean. c.in-Ok.ensures.one (c.calls-answered.ensures.honest clean) old found in
+    let same : AreClean g.D.Disk end.0 end.1 → mid ≡ old = λ clean. c.in-Ok.ensures.one (c.calls-answered.ensures.honest clean) old found in
     let alone = rw c.in-Ok-answered.is at c.calls-answered.ensures.alone in
     alone_as g.D.Disk end (c.close-files.result.log, c.close-files.result.db) Was mid old c.close-files.ensures same
     (alone_if g.D.Disk end (Was mid) (λ clean. let it = were mid old (same clean) file tables bytes_are legal in alone file tables it.0 it.1))
@@ -57,7 +58,7 @@ returns-in-Err-answered-clause-crash g c old found file tables bytes_are legal =
     let end = files_in c.calls-answered.result.1.file in
     let mid = bytes_in c.in-Ok.file.file in
     let Was = AreOldOrCalled g.D.Truthful.is_truthful file c.args.calls.now in
-    let same = λ clean. c.in-Ok.ensures.one (c.calls-answered.ensures.honest clean) old found in
+    let same : AreClean g.D.Disk end.0 end.1 → mid ≡ old = λ clean. c.in-Ok.ensures.one (c.calls-answered.ensures.honest clean) old found in
     leaves_as g.D.Disk end (c.close-files.result.log, c.close-files.result.db) Was mid old c.close-files.ensures same
     (leaves_if g.D.Disk end (Was mid) (λ clean. let it = were mid old (same clean) file tables bytes_are legal in c.calls-answered.ensures.crash file tables it.0 it.1))
 
@@ -73,7 +74,7 @@ returns-in-Err-answered-clause-saved g c saved old found file tables bytes_are l
     let end = files_in c.calls-answered.result.1.file in
     let mid = bytes_in c.in-Ok.file.file in
     let Was = AreCalled g.D.Truthful.is_truthful file c.args.calls.now in
-    let same = λ clean. c.in-Ok.ensures.one (c.calls-answered.ensures.honest clean) old found in
+    let same : AreClean g.D.Disk end.0 end.1 → mid ≡ old = λ clean. c.in-Ok.ensures.one (c.calls-answered.ensures.honest clean) old found in
     let left = rw c.in-Err-answered.is at c.calls-answered.ensures.saved in
     leaves_as g.D.Disk end (c.close-files.result.log, c.close-files.result.db) Was mid old c.close-files.ensures same
     (leaves_if g.D.Disk end (Was mid) (λ clean. let it = were mid old (same clean) file tables bytes_are legal in left saved file tables it.0 it.1))
