@@ -1,7 +1,7 @@
 //! Page files of version 3 changed in place under the writers' lock, and read while others change them.
 #![tactic(auto)]
 
-pub use call::{change_all_at, change_at};
+pub use call::{change_all_at, change_at, put_at};
 pub use one_state::{Reading, read_one_state};
 pub use open_file::OpenFile;
 pub use recovery::{recover_at, settle_before};

@@ -4,9 +4,7 @@ ghost use Rattle.sqlite_std_file.specs.File.{file_is_usable, IsFresh};
 
 use crate::Refused;
 use crate::system_files::{SystemBlocks, opened, options, own_stamp};
-use exh_system::{
-    InPlaceFault, WAIT, draw_stamp, front_of, is_at, lock_soon, open_regular, see_fit,
-};
+use exh_system::{InPlaceFault, draw_stamp, front_of, is_at, lock_soon, open_regular, see_fit};
 use sqlite_disk::Files;
 use sqlite_pager::Options;
 use sqlite_std_file::{Start, Wary};
@@ -37,8 +35,12 @@ pub(crate) struct Begun {
 }
 
 /// The page file of a path, locked before it is read, where that is of version 3; `None` where it is of another version, or
-/// isn't opened.
-pub(crate) fn locked_at(rt: &HostRuntime, path: &str) -> Result<Option<Locked>, Refused> {
+/// isn't opened. For the lock it waits so many seconds.
+pub(crate) fn locked_at(
+    rt: &HostRuntime,
+    path: &str,
+    seconds: u64,
+) -> Result<Option<Locked>, Refused> {
     for _ in 0..TRIES {
         let Ok(file) = open_regular(rt, path) else {
             return Ok(None);
@@ -46,7 +48,7 @@ pub(crate) fn locked_at(rt: &HostRuntime, path: &str) -> Result<Option<Locked>, 
         if front_of(&file)?.is_none() {
             return Ok(None);
         }
-        lock_soon(rt, &file, WAIT)?;
+        lock_soon(rt, &file, seconds)?;
         let whole = fs::canonicalize(rt, path)?;
         if is_at(rt, &file, whole.as_str())? {
             return Ok(Some(Locked { file, whole }));
@@ -55,11 +57,17 @@ pub(crate) fn locked_at(rt: &HostRuntime, path: &str) -> Result<Option<Locked>, 
     Err(Refused::Unfit(InPlaceFault::Changed))
 }
 
-/// Locks the open file of a path, which must be there still; the path without links. It is fit to be changed in place.
+/// Locks the open file of a path, for which it waits so many seconds; the path without links. It must be there still, and be
+/// fit to be changed in place.
 ///
 /// Errors: as of `change_at`; `Unfit` with `NotAsOpened` where it isn't there.
-pub(crate) fn lock_again(rt: &HostRuntime, path: &str, file: &File) -> Result<PathBuf, Refused> {
-    lock_soon(rt, file, WAIT)?;
+pub(crate) fn lock_again(
+    rt: &HostRuntime,
+    path: &str,
+    file: &File,
+    seconds: u64,
+) -> Result<PathBuf, Refused> {
+    lock_soon(rt, file, seconds)?;
     let whole = fs::canonicalize(rt, path)?;
     if !is_at(rt, file, whole.as_str())? {
         return Err(Refused::Unfit(InPlaceFault::NotAsOpened));
@@ -69,7 +77,7 @@ pub(crate) fn lock_again(rt: &HostRuntime, path: &str, file: &File) -> Result<Pa
 }
 
 /// Opens a locked page file with its log, if it is fit to be changed in place.
-pub(crate) fn begun(rt: &HostRuntime, locked: &Locked) -> Result<Begun, Refused>
+pub(crate) fn begin(rt: &HostRuntime, locked: &Locked) -> Result<Begun, Refused>
     ensures log { IfOk result (λ begun. IsTrue (file_is_usable Wary.Start begun.files.log)) }
     ensures db { IfOk result (λ begun. IsTrue (file_is_usable Wary.Start begun.files.db)) }
     ensures fresh { IfOk result (λ begun. IsFresh true begun.files.log × IsFresh false begun.files.db) }

@@ -1,5 +1,5 @@
 use crate::Refused;
-use crate::locked::{Locked, begun, locked_at};
+use crate::locked::{Locked, begin, locked_at};
 use crate::system_files::{SystemBlocks, close};
 use exh_calls::{Call, Reply};
 use exh_commit::ChangeFault;
@@ -18,14 +18,14 @@ pub struct OpenFile {
 
 impl OpenFile {
     /// Opens the page file of a path, where that is of version 3; `None` where it is of another version, or isn't opened. It
-    /// is locked until it is closed or dropped.
+    /// is locked until it is closed or dropped; for the lock it waits so many seconds.
     ///
     /// Errors: as of `change_at`.
-    pub fn at(rt: &HostRuntime, path: &str) -> Result<Option<OpenFile>, Refused> {
-        let Some(locked) = locked_at(rt, path)? else {
+    pub fn at(rt: &HostRuntime, path: &str, seconds: u64) -> Result<Option<OpenFile>, Refused> {
+        let Some(locked) = locked_at(rt, path, seconds)? else {
             return Ok(None);
         };
-        let it = begun(rt, &locked)?;
+        let it = begin(rt, &locked)?;
         match CallFile::open(rt.alloc(), it.files, it.options, it.own) {
             Ok(file) => Ok(Some(OpenFile {
                 locked,

@@ -13,7 +13,7 @@ use sqlite_std_file::Wary;
 use std::fs::File;
 
 /// Saves a draft over the open file of a path, of which just the blocks that differ are written: it must be there still, in
-/// the state that has this stamp. It is locked.
+/// the state that has this stamp. It is locked, for which it waits so many seconds.
 ///
 /// Errors: as of `change_at`; `Unfit` with `NotAsOpened` where it isn't.
 pub fn save_in_place<P: Pages + Drop>(
@@ -22,8 +22,9 @@ pub fn save_in_place<P: Pages + Drop>(
     file: &File,
     stamp: u64,
     draft: Draft<P>,
+    seconds: u64,
 ) -> Result<(), Refused> {
-    let whole = lock_again(rt, path, file)?;
+    let whole = lock_again(rt, path, file, seconds)?;
     let files = opened(rt, whole.as_str(), Wary)?;
     let (saved, files) = save_files(rt.alloc(), files, options(rt)?, stamp, draft);
     close(rt, whole.as_str(), saved.is_ok(), files);
@@ -31,7 +32,7 @@ pub fn save_in_place<P: Pages + Drop>(
 }
 
 /// Answers calls by the open file of a path as one change: it must be there still, in the state that has this stamp. It is
-/// locked. With the replies comes the stamp that the file has then.
+/// locked, for which it waits so many seconds. With the replies comes the stamp that the file has then.
 ///
 /// Errors: as of `change_at`; `Unfit` with `NotAsOpened` where it isn't.
 pub fn answer_in_place(
@@ -40,8 +41,9 @@ pub fn answer_in_place(
     file: &File,
     stamp: u64,
     calls: &[Call],
+    seconds: u64,
 ) -> Result<Answered, Refused> {
-    let whole = lock_again(rt, path, file)?;
+    let whole = lock_again(rt, path, file, seconds)?;
     let new = draw_stamp(rt)?;
     let files = opened(rt, whole.as_str(), Wary)?;
     let (answered, files) = answer_over(rt.alloc(), files, options(rt)?, stamp, calls, new);

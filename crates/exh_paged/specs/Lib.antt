@@ -4,3 +4,4 @@ pub mod Saving
 pub mod SaveFilesFault
 pub mod CallChange
 pub mod CallsChange
+pub mod PutIf

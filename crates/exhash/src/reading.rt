@@ -1,4 +1,6 @@
 //! Page files that are read whole.
+ghost use Rattle.std.specs.Prelude.{IfErr};
+ghost use Rattle.exh_map.specs.Sizes.{IsOther};
 
 use exh_file::{FileForm, Opened, open_form};
 use exh_frames::FileStore;
@@ -14,7 +16,9 @@ use std::io::ErrorKind;
 /// Opens the file of a path.
 ///
 /// `Absent`: nothing is there, or an empty file. `Io`: it isn't opened, as one that isn't regular.
-pub(crate) fn opened_at(rt: &HostRuntime, path: &str) -> Result<File, StoreError> {
+pub(crate) fn opened_at(rt: &HostRuntime, path: &str) -> Result<File, StoreError>
+    ensures { IfErr result IsOther }
+{
     match open_regular(rt, path) {
         Ok(file) if file.metadata()?.len() == 0 => Err(StoreError::Absent),
         Ok(file) => Ok(file),
@@ -37,12 +41,17 @@ pub(crate) fn read_whole(
     }
 }
 
-/// The wards of one state of the file of a path, from which writers are kept while it is read.
+/// The wards of one state of the file of a path, from which writers are kept while it is read. For those that are at work on
+/// it, it waits so many seconds.
 ///
 /// Errors: it isn't opened or read, as they say.
-pub(crate) fn read_still(rt: &HostRuntime, path: &str) -> Result<Opened<FileStore>, StoreError> {
+pub(crate) fn read_still(
+    rt: &HostRuntime,
+    path: &str,
+    seconds: u64,
+) -> Result<Opened<FileStore>, StoreError> {
     let file = opened_at(rt, path)?;
-    hold_still(rt, path, &file)?;
+    hold_still(rt, path, &file, seconds)?;
     let (opened, _form) = read_whole(rt.alloc(), &file)?;
     Ok(opened)
 }
