@@ -4,7 +4,7 @@ use crate::Refused;
 use crate::locked::{Locked, begin, locked_at};
 use crate::system_files::{close, opened};
 use exh_calls::{Call, Reply};
-use exh_paged::{PutIf, call_files, put_files};
+use exh_paged::{PutIf, call_files, calls_files, put_files};
 use sqlite_std_file::Wary;
 
 /// Answers a call by the page file of a path in place, where that is of version 3; `None` where it is of another version, or
@@ -19,6 +19,23 @@ pub fn change_at(
 ) -> Result<Option<Reply>, Refused> {
     match locked_at(rt, path, seconds)? {
         Some(locked) => Ok(Some(change_locked(rt, &locked, call)?)),
+        None => Ok(None),
+    }
+}
+
+/// Answers calls by the page file of a path in place as one change: a crash leaves what all of them make of it, or what was
+/// there. `None` where it is of another version than version 3, or isn't opened. It is locked before it is read, for which it
+/// waits so many seconds.
+///
+/// Errors: as of `change_at`.
+pub fn change_all_at(
+    rt: &HostRuntime,
+    path: &str,
+    calls: &[Call],
+    seconds: u64,
+) -> Result<Option<Vec<Reply>>, Refused> {
+    match locked_at(rt, path, seconds)? {
+        Some(locked) => Ok(Some(change_all_locked(rt, &locked, calls)?)),
         None => Ok(None),
     }
 }
@@ -56,4 +73,18 @@ fn put_locked(rt: &HostRuntime, locked: &Locked, put: &PutIf) -> Result<Reply, R
     let (changed, files) = put_files(rt.alloc(), files, it.options, it.own, put, it.stamp);
     close(rt, whole, changed.is_ok(), files);
     Ok(changed?)
+}
+
+// Answers calls by a page file that is locked, as one change.
+fn change_all_locked(
+    rt: &HostRuntime,
+    locked: &Locked,
+    calls: &[Call],
+) -> Result<Vec<Reply>, Refused> {
+    let whole = locked.whole.as_str();
+    let it = begin(rt, locked)?;
+    let files = opened(rt, whole, Wary)?;
+    let (changed, files) = calls_files(rt.alloc(), files, it.options, it.own, calls, it.stamp);
+    close(rt, whole, changed.is_ok(), files);
+    Ok(changed?.replies)
 }

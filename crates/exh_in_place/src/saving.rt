@@ -1,11 +1,14 @@
-//! Wards that are saved over the page file of the system that they came of.
+//! Wards that are saved over the page file of the system that they came of, and calls that it answers in the state that was
+//! opened.
 
 use crate::Refused;
 use crate::locked::lock_again;
 use crate::system_files::{close, opened, options};
+use exh_calls::Call;
 use exh_file::Draft;
-use exh_paged::save_files;
+use exh_paged::{Answered, answer_over, save_files};
 use exh_stores::Pages;
+use exh_system::draw_stamp;
 use sqlite_std_file::Wary;
 use std::fs::File;
 
@@ -26,4 +29,24 @@ pub fn save_in_place<P: Pages + Drop>(
     let (saved, files) = save_files(rt.alloc(), files, options(rt)?, stamp, draft);
     close(rt, whole.as_str(), saved.is_ok(), files);
     Ok(saved?)
+}
+
+/// Answers calls by the open file of a path as one change: it must be there still, in the state that has this stamp. It is
+/// locked, for which it waits so many seconds. With the replies comes the stamp that the file has then.
+///
+/// Errors: as of `change_at`; `Unfit` with `NotAsOpened` where it isn't.
+pub fn answer_in_place(
+    rt: &HostRuntime,
+    path: &str,
+    file: &File,
+    stamp: u64,
+    calls: &[Call],
+    seconds: u64,
+) -> Result<Answered, Refused> {
+    let whole = lock_again(rt, path, file, seconds)?;
+    let new = draw_stamp(rt)?;
+    let files = opened(rt, whole.as_str(), Wary)?;
+    let (answered, files) = answer_over(rt.alloc(), files, options(rt)?, stamp, calls, new);
+    close(rt, whole.as_str(), answered.is_ok(), files);
+    Ok(answered?)
 }

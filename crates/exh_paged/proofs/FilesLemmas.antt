@@ -51,3 +51,10 @@ found_leaves {D} g old new was log_synced db_synced found kept left clean may =
           (was, subst (λ (image : Image). StandsFor image was) (sym is) found, refl)
       | inr as_found ↦ (was, record { count = found.count; whole = found.whole; recovers = as_found (pages_of was) found.recovers }, refl)
     ]
+
+-- what is left may be shown of files that are clean
+pub leaves_if : {D : Type 0} (g : Ghosts D) (files : D × D) (P : List ℕ → Type 0) → (AreClean g files.0 files.1 → Leaves g files P) → Leaves g files P
+leaves_if g files P all left clean may = all clean left clean may
+
+pub alone_if : {D : Type 0} (g : Ghosts D) (files : D × D) (P : List ℕ → Type 0) → (AreClean g files.0 files.1 → LeavesAlone g files P) → LeavesAlone g files P
+alone_if g files P all left clean may = all clean left clean may

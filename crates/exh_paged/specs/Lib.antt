@@ -3,4 +3,5 @@ pub mod FilesFault
 pub mod Saving
 pub mod SaveFilesFault
 pub mod CallChange
+pub mod CallsChange
 pub mod PutIf

@@ -24,7 +24,7 @@ use std::marker::Brand;
 // Sees that the header of a file has this stamp.
 //
 // `NotAsOpened`: it has another one. `Files`: it fails a test, or couldn't be read, as the fault says.
-fn see_stamp<D: Disk>(file: &mut PagedFile<D>, stamp: u64) -> Result<(), SaveFilesFault>
+pub(crate) fn see_stamp<D: Disk>(file: &mut PagedFile<D>, stamp: u64) -> Result<(), SaveFilesFault>
     requires { IsReady file.old }
     ensures opened { OnOk result (IsHonest file.new → HasStamp stamp (bytes_in file.old)) }
     ensures refused { IfErr result (λ fault. IsHonest file.new → IsCause stamp (bytes_in file.old) fault) }

@@ -2,7 +2,10 @@
 //! saved over them, so that a crash leaves the pairs from before or those from after.
 #![tactic(auto)]
 
+pub use answered::Answered;
 pub use call_change::call_files;
+pub use call_file::CallFile;
+pub use calls_change::calls_files;
 pub use draft_change::save_files;
 pub use files_change::change_files;
 pub use files_fault::FilesFault;
@@ -10,8 +13,12 @@ pub use put_change::put_files;
 pub use put_if::{KeyIs, PutIf};
 pub use recovery::recover_files;
 pub use save_files_fault::SaveFilesFault;
+pub use state_calls::answer_over;
 
+mod answered;
 mod call_change;
+mod call_file;
+mod calls_change;
 mod draft_change;
 mod draft_edits;
 #[cfg(test)]
@@ -25,3 +32,4 @@ mod put_if;
 mod recovery;
 mod save_files_fault;
 mod saving;
+mod state_calls;

@@ -1,0 +1,4 @@
+pub mod Index
+pub mod Overlay
+pub mod Batch
+pub mod Steps
