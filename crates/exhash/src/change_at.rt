@@ -23,20 +23,25 @@ pub(crate) fn changed_at(rt: &HostRuntime, path: &str, call: &Call) -> Result<Re
 // Why the file of a path isn't changed in place, where it isn't a page file of version 3, or isn't opened.
 fn unchanged(rt: &HostRuntime, path: &str) -> StoreError {
     match opened_at(rt, path) {
-        Ok(file) => unchanged_file(&file),
+        Ok(file) => match see_old_version(&file) {
+            Ok(()) => StoreError::OldVersion,
+            Err(fault) => fault,
+        },
         Err(fault) => fault,
     }
 }
 
-// Why an open file that is no page file of version 3 isn't changed in place.
-fn unchanged_file(file: &File) -> StoreError {
+/// Sees that an open file that is no page file of version 3 begins as one of version 1 or 2.
+///
+/// `NoPageFile`, `UnknownVersion`, `Damaged`, `Truncated`: as they say. `Io`: it isn't read.
+pub(crate) fn see_old_version(file: &File) -> Result<(), StoreError> {
     let mut block = [0; BLOCK_LEN];
     match file.read_exact_at(&mut block, 0) {
-        Ok(()) => match Header::from_block(version_in(&block), &block) {
-            Ok(_) => StoreError::OldVersion,
-            Err(fault) => StoreError::from(fault),
-        },
-        Err(error) if error.kind() == ErrorKind::UnexpectedEof => StoreError::Truncated,
-        Err(error) => StoreError::from(error),
+        Ok(()) => {
+            Header::from_block(version_in(&block), &block)?;
+            Ok(())
+        }
+        Err(error) if error.kind() == ErrorKind::UnexpectedEof => Err(StoreError::Truncated),
+        Err(error) => Err(StoreError::from(error)),
     }
 }
