@@ -1,7 +1,7 @@
 -- How the program ends after an everyday command.
 use Rattle.std.specs.Prelude.{Result, Ok, Err, Unit}
-use Rattle.exhash.specs.declared.backup.BackupFault.{BackupFault}
-use Rattle.exhash.specs.declared.backup.BackupFault.TheVariants.{File, Copy}
+use Rattle.exh_backup.specs.declared.fault.BackupFault.{BackupFault}
+use Rattle.exh_backup.specs.declared.fault.BackupFault.TheVariants.{File, Copy}
 use Rattle.exh_map.specs.declared.store_error.StoreError.{StoreError}
 use Rattle.exh_map.specs.declared.store_error.StoreError.TheVariants.{Exists}
 use Rattle.exh_answer.specs.declared.status.Status.{Status}

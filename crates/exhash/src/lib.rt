@@ -2,16 +2,15 @@
 //! to a page file.
 #![tactic(auto)]
 
-pub use backup::{BackupFault, backup};
 pub use direct::Direct;
 pub use disk_commit::commit_files;
+pub use exh_backup::{BackupFault, backup};
 pub use exh_keyer::AnyKeyer as Keyer;
 pub use exh_map::{FileMap, Pairs, Put, PutNew, Settings, StoreError, Swap, USUAL};
 pub use exh_page::{KEY_LIMIT, Key, VALUE_LIMIT, Value};
 pub use new_file::make;
 pub use store::Store;
 
-mod backup;
 mod change_at;
 mod direct;
 mod disk_commit;

@@ -1,7 +1,7 @@
 //! Copies of page files, made beside others that change them.
 
-use crate::change_at::see_old_version;
-use crate::reading::opened_at;
+use crate::BackupFault;
+use crate::source::{opened_at, see_old_version};
 use exh_codec::BLOCK_LEN;
 use exh_disk::folder_of;
 use exh_in_place::{Reading, Refused, hold_still, read_one_state};
@@ -13,24 +13,12 @@ use std::io::ErrorKind;
 use std::os::fd::AsRawFd;
 use std::os::unix::fs::{FileExt, MetadataExt, OpenOptionsExt};
 use std::{fs, io};
-use thiserror::Error;
 
 // The descriptors below are those of the standard streams.
 const FIRST: i32 = 3;
 
 // The bits of a mode that say who may do what.
 const PERMISSIONS: u32 = 0o777;
-
-/// Why a page file isn't copied. What was there is as before.
-#[derive(Debug, Drop, Error)]
-pub enum BackupFault {
-    /// The file that is to be copied isn't opened or read.
-    #[error("{0}")]
-    File(StoreError),
-    /// The copy isn't made: `Exists` where something is there.
-    #[error("{0}")]
-    Copy(StoreError),
-}
 
 /// Copies the page file of a path, of any version, byte for byte to a new path at which nothing is: all of one state, also
 /// beside others that change it. They are kept out meanwhile; where one has the writers' lock all the while, as an open store
