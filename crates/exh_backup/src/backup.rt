@@ -7,7 +7,7 @@ use exh_disk::folder_of;
 use exh_in_place::{Reading, Refused, hold_still, read_one_state};
 use exh_map::StoreError;
 use exh_path::open_above;
-use exh_system::{InPlaceFault, is_at, lock_soon};
+use exh_system::{InPlaceFault, WAIT, is_at, lock_soon};
 use std::fs::{File, OpenOptions};
 use std::io::ErrorKind;
 use std::os::fd::AsRawFd;
@@ -65,7 +65,7 @@ struct Source {
 // The page file of a path, from which writers are kept, unless one has the lock all the while.
 fn held_still(rt: &HostRuntime, path: &str) -> Result<Source, StoreError> {
     let file = opened_at(rt, path)?;
-    let is_still = match hold_still(rt, path, &file) {
+    let is_still = match hold_still(rt, path, &file, WAIT) {
         Ok(true) => true,
         Ok(false) => {
             see_old_version(&file)?;
@@ -151,7 +151,7 @@ impl Reading for Rest<'_> {
 // Copies all blocks but the first of one state of the page file of a path that another process may change, and gives the
 // first.
 fn copy_state(rt: &HostRuntime, path: &str, copy: &File) -> Result<[u8; BLOCK_LEN], BackupFault> {
-    match read_one_state(rt, path, &mut Rest { copy }) {
+    match read_one_state(rt, path, &mut Rest { copy }, WAIT) {
         Ok(found) => found,
         Err(refused) => Err(BackupFault::File(StoreError::from(refused))),
     }

@@ -24,12 +24,17 @@ pub(crate) fn read_whole(
     }
 }
 
-/// The wards of one state of the file of a path, from which writers are kept while it is read.
+/// The wards of one state of the file of a path, from which writers are kept while it is read. For those that are at work on
+/// it, it waits so many seconds.
 ///
 /// Errors: it isn't opened or read, as they say.
-pub(crate) fn read_still(rt: &HostRuntime, path: &str) -> Result<Opened<FileStore>, StoreError> {
+pub(crate) fn read_still(
+    rt: &HostRuntime,
+    path: &str,
+    seconds: u64,
+) -> Result<Opened<FileStore>, StoreError> {
     let file = opened_at(rt, path)?;
-    hold_still(rt, path, &file)?;
+    hold_still(rt, path, &file, seconds)?;
     let (opened, _form) = read_whole(rt.alloc(), &file)?;
     Ok(opened)
 }
