@@ -1,7 +1,9 @@
 //! What the program tells of itself on standard output.
-ghost use Rattle.std.specs.Prelude.{◌≡◌, [], IsFalse};
+ghost use Rattle.std.specs.Prelude.{◌≡◌, [], IfOk, IsFalse, OnErr, string_bytes};
 ghost use Rattle.exh_stream.specs.Output.{SameWriter, held, pending, writer_failed};
-ghost use Rattle.exh_cli.specs.Telling.{TellsNoMemory, TellsText};
+ghost use Rattle.exh_answer.specs.LastLine.{TellsLine};
+ghost use Rattle.exh_answer.specs.declared.status.Status.TheVariants.{Done};
+ghost use Rattle.exh_cli.specs.Telling.{TellsNoMemory};
 
 use exh_answer::{OUT_OF_MEMORY, Status, print_last, tell_line};
 use exh_command::{PROGRAM_VERSION, manual_text};
@@ -33,7 +35,8 @@ fn tell_text<W: Write>(text: Result<String, AllocError>, output: &mut Output<'_,
     requires open { IsFalse (writer_failed output.old) }
     requires empty { pending output.old ≡ [] }
     ensures same_writer { SameWriter output.old output.new }
-    ensures told { TellsText (held W.contents output.old) (held W.contents output.new) (writer_failed output.new) text result }
+    ensures ok { IfOk text (λ text. TellsLine (held W.contents output.old) (held W.contents output.new) (writer_failed output.new) (string_bytes text) Done result) }
+    ensures err { OnErr text (TellsNoMemory (held W.contents output.old) (held W.contents output.new) (writer_failed output.new) result) }
 {
     match text {
         Ok(text) => tell_line(text.as_bytes(), Status::Done, output),

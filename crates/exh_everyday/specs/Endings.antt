@@ -1,5 +1,5 @@
 -- How the program ends after an everyday command.
-use Rattle.std.specs.Prelude.{Result, Ok, Err, Unit}
+use Rattle.std.specs.Prelude.{Result, Ok, Err}
 use Rattle.exh_backup.specs.declared.fault.BackupFault.{BackupFault}
 use Rattle.exh_backup.specs.declared.fault.BackupFault.TheVariants.{File, Copy}
 use Rattle.exh_map.specs.declared.store_error.StoreError.{StoreError}
