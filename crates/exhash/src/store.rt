@@ -110,16 +110,17 @@ impl<'r> Store<'r> {
     }
 
     /// Opens one state of the page file of a path to be read, also beside others that change it, and holds nothing of it.
-    /// What is changed of the store isn't committed. It waits five seconds for those that are changing the file.
+    /// What is changed of the store isn't committed. It reads for five seconds while others are changing the file.
     ///
-    /// Errors: as of `open`.
+    /// `Absent`: nothing is there, or an empty file. `Changed`: it was being changed all the while. Others: it isn't opened, as
+    /// they say.
     pub fn open_read(rt: &'r HostRuntime, path: &str) -> Result<Store<'r>, StoreError>
         ensures read { IfOk result (λ store. IsReadOnly store.file) }
     {
         Store::open_read_within(rt, path, WAIT)
     }
 
-    /// The same, and waits so many seconds.
+    /// The same, and reads for so many seconds.
     pub fn open_read_within(
         rt: &'r HostRuntime,
         path: &str,
