@@ -170,7 +170,7 @@ impl<'r> Store<'r> {
         let key = key_of(key)?;
         let value = value_of(value)?;
         let put = self.map.put(&key, &value)?;
-        self.is_changed = true;
+        self.is_changed |= !matches!(put, Put::Full);
         Ok(put)
     }
 
@@ -186,7 +186,7 @@ impl<'r> Store<'r> {
         let key = key_of(key)?;
         let value = value_of(value)?;
         let put = self.map.put_new(&key, &value)?;
-        self.is_changed = true;
+        self.is_changed |= matches!(put, PutNew::New);
         Ok(put)
     }
 
@@ -202,7 +202,7 @@ impl<'r> Store<'r> {
         let key = key_of(key)?;
         let value = value_of(value)?;
         let replaced = self.map.replace(&key, &value)?;
-        self.is_changed = true;
+        self.is_changed |= replaced.is_some();
         Ok(replaced)
     }
 
@@ -217,7 +217,7 @@ impl<'r> Store<'r> {
     {
         let key = key_of(key)?;
         let removed = self.map.remove(&key)?;
-        self.is_changed = true;
+        self.is_changed |= removed.is_some();
         Ok(removed)
     }
 
@@ -234,7 +234,7 @@ impl<'r> Store<'r> {
         let old = value_of(old)?;
         let new = value_of(new)?;
         let swap = self.map.swap(&key, &old, &new)?;
-        self.is_changed = true;
+        self.is_changed |= matches!(swap, Swap::Swapped);
         Ok(swap)
     }
 
@@ -270,7 +270,7 @@ impl<'r> Store<'r> {
     /// older one the whole file. On `Ok` it is on the disk. A crash leaves all of it or nothing.
     ///
     /// `ReadOnly`: the store was opened to be read. `Vanished`, `Changed`: the file is no longer the one that was opened.
-    /// `Unsure`: the change is saved or not, which the next open tells. `Unheld`: it is saved,
+    /// `Unsure`: the change is saved or not, which the next open tells, and this store commits no more. `Unheld`: it is saved,
     /// but this store commits no more. Others: nothing was saved, as they say. The pairs of the store are as before in each
     /// case.
     pub fn commit(&mut self) -> Result<(), StoreError>
