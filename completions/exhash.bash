@@ -4,14 +4,15 @@ _exhash() {
     local word=${COMP_WORDS[COMP_CWORD]} last=${COMP_WORDS[COMP_CWORD - 1]} options=--help
     COMPREPLY=()
     if ((COMP_CWORD == 1)); then
-        mapfile -t COMPREPLY < <(compgen -W 'serve check dump load get put del swap pairs convert storm help --help --version' -- "$word")
+        mapfile -t COMPREPLY < <(compgen -W 'serve check dump load get put del swap pairs convert create backup version manual storm help --help --version' -- "$word")
         return
     fi
     case ${COMP_WORDS[1]} in
         serve) options='--open --save --help' ;;
         storm) options='--callers --calls --cap --wards --copies --help' ;;
-        check | dump) ;;
-        pairs)
+        check | dump | backup) ;;
+        version) [[ $word == -* ]] || return ;;
+        pairs | create)
             options='--cap --wards --keyer --help'
             case $last in
                 --cap | --wards) return ;;
@@ -31,8 +32,8 @@ _exhash() {
         load) options='--long --into --help' ;;
         # Keys and values are no paths.
         get | put | del | swap) ((COMP_CWORD == 2)) || return ;;
-        help)
-            mapfile -t COMPREPLY < <(compgen -W 'serve check dump load get put del swap pairs convert storm' -- "$word")
+        help | manual)
+            mapfile -t COMPREPLY < <(compgen -W 'serve check dump load get put del swap pairs convert create backup version manual storm' -- "$word")
             return
             ;;
         *) return ;;

@@ -64,6 +64,24 @@ def pairing_of(words):
     return places[0], {name: OPTIONS[name](value) for name, value in options.items()}
 
 
+# The settings of a new file, where they aren't given.
+USUAL = {"cap": CAP_LIMIT, "wards": 0, "keyer": "sha"}
+
+
+def creating_of(words):
+    """The path that the words of `create` name, and the settings of the new file."""
+    path, settings = pairing_of(words)
+    return path, USUAL | settings
+
+
+def copying_of(words):
+    """The two paths that the words of `backup` name."""
+    places, _ = parted(words)
+    if len(places) != 2:
+        raise WrongWords
+    return places
+
+
 def converting_of(words):
     """The two paths that the words of `convert` name, and the version."""
     places, options = parted(words, ["version"])

@@ -3,7 +3,7 @@
 from typing import NamedTuple
 
 from .bits import low_bound, parent_of
-from .command_line import WrongWords, calling_of, converting_of, pairing_of
+from .command_line import WrongWords, calling_of, converting_of, copying_of, creating_of, pairing_of
 from .file_reader import file_of, value_in
 from .grammar import printed
 from .page_file import BLOCK, MAGIC, bytes_of_file, check_text, dump_text, load_of, pairs_text, put
@@ -57,6 +57,10 @@ def outcome_of_right(words, given, files):
             return ended(lines, load, files, name, name)
         case ["convert", *spelled]:
             return converted(*converting_of(spelled), files)
+        case ["create", *spelled]:
+            return created(*creating_of(spelled), files)
+        case ["backup", *spelled]:
+            return copied(*copying_of(spelled), files)
         case [("put" | "del" | "swap") as command, *spelled]:
             return changed(*calling_of(command, spelled), files)
         case ["serve", *options]:
@@ -140,6 +144,24 @@ def converted(name, new, version, files):
     if files.get(new):
         return Outcome([], 1, files)
     return saved([], placed_file(file, DRAWN) if version == PLACED.number else bytes_of_file(file), files, new)
+
+
+def created(name, settings, files):
+    """An empty file of these settings, where nothing is or an empty file."""
+    if files.get(name):
+        return Outcome([], 3, files)
+    line = "file cap={cap} wards={wards} copies=1 keyer={keyer}\n".format(**settings)
+    return Outcome([], 0, files | {name: placed_file(load_of(line.encode())[1].left(), DRAWN)})
+
+
+def copied(name, new, files):
+    """The bytes of the page file of a name, where nothing is."""
+    if new in files:
+        return Outcome([], 3, files)
+    content = files.get(name, b"")
+    if not content.startswith(MAGIC) or len(content) % BLOCK:
+        return Outcome([], 1, files)
+    return Outcome([], 0, files | {new: content})
 
 
 def bytes_again(file, opened):

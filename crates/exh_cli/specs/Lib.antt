@@ -1,2 +1,3 @@
 pub mod ScriptRun
 pub mod StormRun
+pub mod Telling

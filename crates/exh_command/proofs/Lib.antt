@@ -7,4 +7,5 @@ pub mod TheProgram
 pub mod KeyWords
 pub mod PutWords
 pub mod SwapWords
+pub mod ManualWords
 pub mod ParserLemmas

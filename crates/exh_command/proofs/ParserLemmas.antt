@@ -19,12 +19,13 @@ use Rattle.clap.proofs.OnLiterals.{clap_on_literals}
 use Rattle.clap.proofs.WalkLemmas.{both, first_value-rows, one_text-rows, walk_stopped}
 use Rattle.clap.proofs.FaultLemmas.{stopped_fault}
 use Rattle.exh_command.specs.CommandFault.{IsFaultOf, IsWrong, TellsVersion}
-use Rattle.exh_command.specs.Words.{Use, alone, ends_options, flags_and_path, gives, is_option, is_use_of, new_path_name, next_place, only_word, option_given, path_and_key, path_and_three, path_and_two, path_name, path_named, uses_and_path, uses_and_two_paths, uses_named}
-use Rattle.exh_command.specs.Job.{AskForVersion, Asked, Serve, Check, Dump, Load, Storm, Get, Put, Del, Swap, Pairs, Convert, asked_by, callers_name, calls_name, cap_name, command_of, convert_asked, convert_names, converted_by, copies_name, del_asked, deleted_by, get_asked, got_by, job_asked, job_named, into_name, keyer_name, load_asked, load_flags, loaded_by, long_name, open_name, paired_by, pairs_asked, pairs_names, put_asked, put_by, save_name, serve_asked, serve_names, served_by, storm_asked, storm_names, stormed_by, swap_asked, swapped_by, version_name, wards_name}
-use Rattle.exh_command.specs.Parser.{HasFlags, HasPairsTexts, HasTexts, HasValues, IsJobMet, Meets, ReadsJobs, key_id, new_id, old_id, pairs_texts_of, path_id, path_rule, texts_of, value_id}
+use Rattle.exh_command.specs.Words.{Use, alone, ends_options, flags_and_path, gives, is_option, is_use_of, new_path_name, next_place, only_word, option_given, path_and_key, path_and_three, path_and_two, path_name, path_named, uses_and_path, uses_and_two_paths, uses_named, word_perhaps}
+use Rattle.exh_command.specs.Job.{AskForVersion, Asked, Serve, Check, Dump, Load, Storm, Get, Put, Del, Swap, Pairs, PairsTexts, Convert, Create, Backup, Version, Manual, asked_by, backed_by, backup_asked, callers_name, calls_name, cap_name, command_of, convert_asked, convert_names, converted_by, copies_name, create_asked, created_by, del_asked, deleted_by, get_asked, got_by, job_asked, job_named, into_name, keyer_name, load_asked, load_flags, loaded_by, long_name, manual_asked, open_name, paired_by, pairs_asked, pairs_names, put_asked, put_by, save_name, serve_asked, serve_names, served_by, storm_asked, storm_names, stormed_by, swap_asked, swapped_by, version_asked, version_name, versioned_by, wards_name}
+use Rattle.exh_command.specs.Parser.{HasFlags, HasPairsTexts, HasTexts, HasValues, IsJobMet, Meets, ReadsJobs, command_id, key_id, new_id, old_id, pairs_texts_of, path_id, path_rule, texts_of, value_id}
 use Rattle.exh_command.proofs.TheProgram.{program, serve}
 use Rattle.exh_command.proofs.KeyWords.{key_agrees, key_flags, key_kinds, key_met}
 use Rattle.exh_command.proofs.PutWords.{put_agrees, put_flags, put_kinds, put_met}
+use Rattle.exh_command.proofs.ManualWords.{manual_agrees, manual_flags, manual_kinds, manual_met}
 use Rattle.exh_command.proofs.SwapWords.{swap_agrees, swap_flags, swap_kinds, swap_met}
 use Rattle.exh_command.specs.declared.fault.CliFault.{CliFault}
 use Rattle.exh_command.proofs.OptionLemmas.{IsOptionLeaf, first_of-rows_of_uses, rows_of_uses}
@@ -160,6 +161,68 @@ converted_values uses whole =
 convert_met : (words : List Text) (asked : Asked) → convert_asked words ≡ Some asked → HasValues asked (rows_after convert_flags [] words)
 convert_met words asked named =
     flags_met two_paths (codes "convert") convert_flags convert_names [] convert_leaf converted_by (λ words uses is whole. subst (HasValues (converted_by uses)) (sym (two_paths_keep convert_names (rows_of_uses uses))) (converted_values uses whole)) words asked named
+
+-- ---- the words after `create`, which takes those of `pairs`
+
+create_leaf : IsOptionLeaf one_path (codes "create") pairs_flags pairs_names []
+unfolding clap_on_literals
+create_leaf = path_leaf_of (codes "create") pairs_names refl
+
+abbrev create_kinds : List Text → Kinds
+create_kinds words = level_fault (slice_index_or (built program).subs 11 serve) [] nothing_held words false []
+
+create_agrees : (words : List Text) → Agrees (create_asked words) (create_kinds words)
+create_agrees words = flags_agree one_path (codes "create") pairs_flags pairs_names [] create_leaf created_by words
+
+created_values : (uses : List Use) → next_place one_path uses ≡ None → HasValues (created_by uses) (rows_of_uses uses)
+created_values uses whole = paired_values uses whole
+
+create_met : (words : List Text) (asked : Asked) → create_asked words ≡ Some asked → HasValues asked (rows_after pairs_flags [] words)
+create_met words asked named = flags_met one_path (codes "create") pairs_flags pairs_names [] create_leaf created_by (λ words uses is whole. subst (HasValues (created_by uses)) (sym (path_keeps pairs_names (rows_of_uses uses))) (created_values uses whole)) words asked named
+
+-- ---- the words after `backup`
+
+abbrev backup_flags : List Rule
+backup_flags = two_path_flags_of []
+
+backup_leaf : IsOptionLeaf two_paths (codes "backup") backup_flags [] []
+unfolding clap_on_literals
+backup_leaf = two_paths_leaf_of (codes "backup") [] refl refl
+
+abbrev backup_kinds : List Text → Kinds
+backup_kinds words = level_fault (slice_index_or (built program).subs 12 serve) [] nothing_held words false []
+
+backup_agrees : (words : List Text) → Agrees (backup_asked words) (backup_kinds words)
+backup_agrees words = flags_agree two_paths (codes "backup") backup_flags [] [] backup_leaf backed_by words
+
+backed_values : (uses : List Use) → next_place two_paths uses ≡ None → HasValues (backed_by uses) (rows_of_uses uses)
+backed_values uses whole =
+    let both = both_given (gives uses path_name) (gives uses new_path_name) whole in (
+      first_of-rows_of_uses path_name uses ∙ some_or (option_given path_name uses) (given_is path_name uses ∙ both.0),
+      first_of-rows_of_uses new_path_name uses ∙ some_or (option_given new_path_name uses) (given_is new_path_name uses ∙ both.1),
+    )
+
+backup_met : (words : List Text) (asked : Asked) → backup_asked words ≡ Some asked → HasValues asked (rows_after backup_flags [] words)
+backup_met words asked named =
+    flags_met two_paths (codes "backup") backup_flags [] [] backup_leaf backed_by (λ words uses is whole. subst (HasValues (backed_by uses)) (sym (two_paths_keep [] (rows_of_uses uses))) (backed_values uses whole)) words asked named
+
+-- ---- the words after `version`
+
+abbrev version_flags : List Rule
+version_flags = option_flags []
+
+version_leaf : IsOptionLeaf [] (codes "version") version_flags [] []
+unfolding clap_on_literals
+version_leaf = option_leaf (codes "version") [] (λ rows. ap₂ or_else (no_defaults [] rows) refl)
+
+abbrev version_kinds : List Text → Kinds
+version_kinds words = level_fault (slice_index_or (built program).subs 13 serve) [] nothing_held words false []
+
+version_agrees : (words : List Text) → Agrees (version_asked words) (version_kinds words)
+version_agrees words = flags_agree [] (codes "version") version_flags [] [] version_leaf versioned_by words
+
+version_met : (words : List Text) (asked : Asked) → version_asked words ≡ Some asked → HasValues asked (rows_after version_flags [] words)
+version_met words asked named = flags_met [] (codes "version") version_flags [] [] version_leaf versioned_by (λ words uses is whole. tt) words asked named
 
 -- ---- the words after `load`
 
@@ -391,6 +454,22 @@ convert_leaves : (words : List Text) → top_kinds (codes "convert" ∷ words) �
 unfolding clap_on_literals
 convert_leaves words = stopped_is (codes "convert") words ∙ or_nothing (convert_kinds words)
 
+create_leaves : (words : List Text) → top_kinds (codes "create" ∷ words) ≡ create_kinds words
+unfolding clap_on_literals
+create_leaves words = stopped_is (codes "create") words ∙ or_nothing (create_kinds words)
+
+backup_leaves : (words : List Text) → top_kinds (codes "backup" ∷ words) ≡ backup_kinds words
+unfolding clap_on_literals
+backup_leaves words = stopped_is (codes "backup") words ∙ or_nothing (backup_kinds words)
+
+version_leaves : (words : List Text) → top_kinds (codes "version" ∷ words) ≡ version_kinds words
+unfolding clap_on_literals
+version_leaves words = stopped_is (codes "version") words ∙ or_nothing (version_kinds words)
+
+manual_leaves : (words : List Text) → top_kinds (codes "manual" ∷ words) ≡ manual_kinds words
+unfolding clap_on_literals
+manual_leaves words = stopped_is (codes "manual") words ∙ or_nothing (manual_kinds words)
+
 help_fails : (words : List Text) → Fails (top_kinds (codes "help" ∷ words))
 unfolding clap_on_literals
 help_fails words = tt
@@ -401,9 +480,9 @@ end_fails [] = tt
 end_fails (word ∷ rest) = tt
 
 -- a word that names no command
-module _ (word : Text) (no_serve : bytes_eq (codes "serve") word ≡ false) (no_check : bytes_eq (codes "check") word ≡ false) (no_dump : bytes_eq (codes "dump") word ≡ false) (no_load : bytes_eq (codes "load") word ≡ false) (no_storm : bytes_eq (codes "storm") word ≡ false) (no_get : bytes_eq (codes "get") word ≡ false) (no_put : bytes_eq (codes "put") word ≡ false) (no_del : bytes_eq (codes "del") word ≡ false) (no_swap : bytes_eq (codes "swap") word ≡ false) (no_pairs : bytes_eq (codes "pairs") word ≡ false) (no_convert : bytes_eq (codes "convert") word ≡ false) where
+module _ (word : Text) (no_serve : bytes_eq (codes "serve") word ≡ false) (no_check : bytes_eq (codes "check") word ≡ false) (no_dump : bytes_eq (codes "dump") word ≡ false) (no_load : bytes_eq (codes "load") word ≡ false) (no_storm : bytes_eq (codes "storm") word ≡ false) (no_get : bytes_eq (codes "get") word ≡ false) (no_put : bytes_eq (codes "put") word ≡ false) (no_del : bytes_eq (codes "del") word ≡ false) (no_swap : bytes_eq (codes "swap") word ≡ false) (no_pairs : bytes_eq (codes "pairs") word ≡ false) (no_convert : bytes_eq (codes "convert") word ≡ false) (no_create : bytes_eq (codes "create") word ≡ false) (no_backup : bytes_eq (codes "backup") word ≡ false) (no_version : bytes_eq (codes "version") word ≡ false) (no_manual : bytes_eq (codes "manual") word ≡ false) where
   unnamed : bytes_eq (codes "help") word ≡ false → subcommand_met names idle word ≡ None
-  unnamed no_help = rw (no_serve, no_check, no_dump, no_load, no_storm, no_get, no_put, no_del, no_swap, no_pairs, no_convert, no_help) refl
+  unnamed no_help = rw (no_serve, no_check, no_dump, no_load, no_storm, no_get, no_put, no_del, no_swap, no_pairs, no_convert, no_create, no_backup, no_version, no_manual, no_help) refl
 
   other_fails : (rest : List Text) (helps ends : Bool) → bytes_eq (codes "help") word ≡ helps → ends_options word ≡ ends → Fails (top_kinds (word ∷ rest))
   unfolding clap_on_literals
@@ -412,50 +491,62 @@ module _ (word : Text) (no_serve : bytes_eq (codes "serve") word ≡ false) (no_
   other_fails rest false false no_help no_end =
       first_fails _ _ (first_fails _ _ (word_fails top flags short_asking [] None 1 word refl (all_ask flags long_asking (long_of word)) names (unnamed no_help) no_end))
 
-command_agrees : (word : Text) (rest : List Text) (serves checks dumps loads storms gets puts dels swaps pairs converts : Bool) → bytes_eq (codes "serve") word ≡ serves → bytes_eq (codes "check") word ≡ checks → bytes_eq (codes "dump") word ≡ dumps → bytes_eq (codes "load") word ≡ loads → bytes_eq (codes "storm") word ≡ storms → bytes_eq (codes "get") word ≡ gets → bytes_eq (codes "put") word ≡ puts → bytes_eq (codes "del") word ≡ dels → bytes_eq (codes "swap") word ≡ swaps → bytes_eq (codes "pairs") word ≡ pairs → bytes_eq (codes "convert") word ≡ converts
-    → Agrees (cond serves (serve_asked rest) (cond checks (option_map Check (path_named rest)) (cond dumps (option_map Dump (path_named rest)) (cond loads (load_asked rest) (cond storms (storm_asked rest) (cond gets (get_asked rest) (cond puts (put_asked rest) (cond dels (del_asked rest) (cond swaps (swap_asked rest) (cond pairs (pairs_asked rest) (cond converts (convert_asked rest) None)))))))))))
+command_agrees : (word : Text) (rest : List Text) (serves checks dumps loads storms gets puts dels swaps pairs converts creates backups versions manuals : Bool) → bytes_eq (codes "serve") word ≡ serves → bytes_eq (codes "check") word ≡ checks → bytes_eq (codes "dump") word ≡ dumps → bytes_eq (codes "load") word ≡ loads → bytes_eq (codes "storm") word ≡ storms → bytes_eq (codes "get") word ≡ gets → bytes_eq (codes "put") word ≡ puts → bytes_eq (codes "del") word ≡ dels → bytes_eq (codes "swap") word ≡ swaps → bytes_eq (codes "pairs") word ≡ pairs → bytes_eq (codes "convert") word ≡ converts → bytes_eq (codes "create") word ≡ creates → bytes_eq (codes "backup") word ≡ backups → bytes_eq (codes "version") word ≡ versions → bytes_eq (codes "manual") word ≡ manuals
+    → Agrees (cond serves (serve_asked rest) (cond checks (option_map Check (path_named rest)) (cond dumps (option_map Dump (path_named rest)) (cond loads (load_asked rest) (cond storms (storm_asked rest) (cond gets (get_asked rest) (cond puts (put_asked rest) (cond dels (del_asked rest) (cond swaps (swap_asked rest) (cond pairs (pairs_asked rest) (cond converts (convert_asked rest) (cond creates (create_asked rest) (cond backups (backup_asked rest) (cond versions (version_asked rest) (cond manuals (manual_asked rest) None)))))))))))))))
     (top_kinds (word ∷ rest))
-command_agrees word rest true checks dumps loads storms gets puts dels swaps pairs converts s c d l o g p e w i v =
+command_agrees word rest true checks dumps loads storms gets puts dels swaps pairs converts creates backups versions manuals s c d l o g p e w i v r b n m =
     let left = subst (Agrees (serve_asked rest)) (sym (serve_leaves rest)) (leaf_agrees rest) in
     subst (λ w. Agrees (serve_asked rest) (top_kinds (w ∷ rest))) (is_name (codes "serve") word s) left
-command_agrees word rest false true dumps loads storms gets puts dels swaps pairs converts s c d l o g p e w i v =
+command_agrees word rest false true dumps loads storms gets puts dels swaps pairs converts creates backups versions manuals s c d l o g p e w i v r b n m =
     let left = subst (Agrees (option_map Check (path_named rest))) (sym (check_leaves rest)) (agrees_as Check _ _ (path_agrees rest)) in
     subst (λ w. Agrees (option_map Check (path_named rest)) (top_kinds (w ∷ rest))) (is_name (codes "check") word c) left
-command_agrees word rest false false true loads storms gets puts dels swaps pairs converts s c d l o g p e w i v =
+command_agrees word rest false false true loads storms gets puts dels swaps pairs converts creates backups versions manuals s c d l o g p e w i v r b n m =
     let left = subst (Agrees (option_map Dump (path_named rest))) (sym (dump_leaves rest)) (agrees_as Dump _ _ (path_agrees rest)) in
     subst (λ w. Agrees (option_map Dump (path_named rest)) (top_kinds (w ∷ rest))) (is_name (codes "dump") word d) left
-command_agrees word rest false false false true storms gets puts dels swaps pairs converts s c d l o g p e w i v =
+command_agrees word rest false false false true storms gets puts dels swaps pairs converts creates backups versions manuals s c d l o g p e w i v r b n m =
     let left = subst (Agrees (load_asked rest)) (sym (load_leaves rest)) (load_agrees rest) in
     subst (λ w. Agrees (load_asked rest) (top_kinds (w ∷ rest))) (is_name (codes "load") word l) left
-command_agrees word rest false false false false true gets puts dels swaps pairs converts s c d l o g p e w i v =
+command_agrees word rest false false false false true gets puts dels swaps pairs converts creates backups versions manuals s c d l o g p e w i v r b n m =
     let left = subst (Agrees (storm_asked rest)) (sym (storm_leaves rest)) (storm_agrees rest) in
     subst (λ w. Agrees (storm_asked rest) (top_kinds (w ∷ rest))) (is_name (codes "storm") word o) left
-command_agrees word rest false false false false false true puts dels swaps pairs converts s c d l o g p e w i v =
+command_agrees word rest false false false false false true puts dels swaps pairs converts creates backups versions manuals s c d l o g p e w i v r b n m =
     let left = subst (Agrees (get_asked rest)) (sym (get_leaves rest)) (agrees_as got_by _ _ (key_agrees rest)) in
     subst (λ w. Agrees (get_asked rest) (top_kinds (w ∷ rest))) (is_name (codes "get") word g) left
-command_agrees word rest false false false false false false true dels swaps pairs converts s c d l o g p e w i v =
+command_agrees word rest false false false false false false true dels swaps pairs converts creates backups versions manuals s c d l o g p e w i v r b n m =
     let left = subst (Agrees (put_asked rest)) (sym (put_leaves rest)) (agrees_as put_by _ _ (put_agrees rest)) in
     subst (λ w. Agrees (put_asked rest) (top_kinds (w ∷ rest))) (is_name (codes "put") word p) left
-command_agrees word rest false false false false false false false true swaps pairs converts s c d l o g p e w i v =
+command_agrees word rest false false false false false false false true swaps pairs converts creates backups versions manuals s c d l o g p e w i v r b n m =
     let left = subst (Agrees (del_asked rest)) (sym (del_leaves rest)) (agrees_as deleted_by _ _ (key_agrees rest)) in
     subst (λ w. Agrees (del_asked rest) (top_kinds (w ∷ rest))) (is_name (codes "del") word e) left
-command_agrees word rest false false false false false false false false true pairs converts s c d l o g p e w i v =
+command_agrees word rest false false false false false false false false true pairs converts creates backups versions manuals s c d l o g p e w i v r b n m =
     let left = subst (Agrees (swap_asked rest)) (sym (swap_leaves rest)) (agrees_as swapped_by _ _ (swap_agrees rest)) in
     subst (λ w. Agrees (swap_asked rest) (top_kinds (w ∷ rest))) (is_name (codes "swap") word w) left
-command_agrees word rest false false false false false false false false false true converts s c d l o g p e w i v =
+command_agrees word rest false false false false false false false false false true converts creates backups versions manuals s c d l o g p e w i v r b n m =
     let left = subst (Agrees (pairs_asked rest)) (sym (pairs_leaves rest)) (pairs_agree rest) in
     subst (λ w. Agrees (pairs_asked rest) (top_kinds (w ∷ rest))) (is_name (codes "pairs") word i) left
-command_agrees word rest false false false false false false false false false false true s c d l o g p e w i v =
+command_agrees word rest false false false false false false false false false false true creates backups versions manuals s c d l o g p e w i v r b n m =
     let left = subst (Agrees (convert_asked rest)) (sym (convert_leaves rest)) (convert_agrees rest) in
     subst (λ w. Agrees (convert_asked rest) (top_kinds (w ∷ rest))) (is_name (codes "convert") word v) left
-command_agrees word rest false false false false false false false false false false false s c d l o g p e w i v = other_fails word s c d l o g p e w i v rest (bytes_eq (codes "help") word) (ends_options word) refl refl
+command_agrees word rest false false false false false false false false false false false true backups versions manuals s c d l o g p e w i v r b n m =
+    let left = subst (Agrees (create_asked rest)) (sym (create_leaves rest)) (create_agrees rest) in
+    subst (λ w. Agrees (create_asked rest) (top_kinds (w ∷ rest))) (is_name (codes "create") word r) left
+command_agrees word rest false false false false false false false false false false false false true versions manuals s c d l o g p e w i v r b n m =
+    let left = subst (Agrees (backup_asked rest)) (sym (backup_leaves rest)) (backup_agrees rest) in
+    subst (λ w. Agrees (backup_asked rest) (top_kinds (w ∷ rest))) (is_name (codes "backup") word b) left
+command_agrees word rest false false false false false false false false false false false false false true manuals s c d l o g p e w i v r b n m =
+    let left = subst (Agrees (version_asked rest)) (sym (version_leaves rest)) (version_agrees rest) in
+    subst (λ w. Agrees (version_asked rest) (top_kinds (w ∷ rest))) (is_name (codes "version") word n) left
+command_agrees word rest false false false false false false false false false false false false false false true s c d l o g p e w i v r b n m =
+    let left = subst (Agrees (manual_asked rest)) (sym (manual_leaves rest)) (agrees_as Manual _ _ (manual_agrees rest)) in
+    subst (λ w. Agrees (manual_asked rest) (top_kinds (w ∷ rest))) (is_name (codes "manual") word m) left
+command_agrees word rest false false false false false false false false false false false false false false false s c d l o g p e w i v r b n m = other_fails word s c d l o g p e w i v r b n m rest (bytes_eq (codes "help") word) (ends_options word) refl refl
 
 words_agree : (words : List Text) → Agrees (asked_by words) (fault_of program words)
 unfolding clap_on_literals
 words_agree [] = tt
 words_agree (name ∷ []) = tt
 words_agree (name ∷ command ∷ rest) =
-    command_agrees command rest (bytes_eq (codes "serve") command) (bytes_eq (codes "check") command) (bytes_eq (codes "dump") command) (bytes_eq (codes "load") command) (bytes_eq (codes "storm") command) (bytes_eq (codes "get") command) (bytes_eq (codes "put") command) (bytes_eq (codes "del") command) (bytes_eq (codes "swap") command) (bytes_eq (codes "pairs") command) (bytes_eq (codes "convert") command) refl refl refl refl refl refl refl refl refl refl refl
+    command_agrees command rest (bytes_eq (codes "serve") command) (bytes_eq (codes "check") command) (bytes_eq (codes "dump") command) (bytes_eq (codes "load") command) (bytes_eq (codes "storm") command) (bytes_eq (codes "get") command) (bytes_eq (codes "put") command) (bytes_eq (codes "del") command) (bytes_eq (codes "swap") command) (bytes_eq (codes "pairs") command) (bytes_eq (codes "convert") command) (bytes_eq (codes "create") command) (bytes_eq (codes "backup") command) (bytes_eq (codes "version") command) (bytes_eq (codes "manual") command) refl refl refl refl refl refl refl refl refl refl refl refl refl refl refl
 
 -- ---- the command that is met, and its values
 
@@ -507,6 +598,22 @@ convert_command_met : (name : Text) (words : List Text) → subcommand_of progra
 unfolding clap_on_literals
 convert_command_met name words = met_at (codes "convert") words
 
+create_command_met : (name : Text) (words : List Text) → subcommand_of program (name ∷ codes "create" ∷ words) ≡ Some (codes "create", rows_after pairs_flags [] words)
+unfolding clap_on_literals
+create_command_met name words = met_at (codes "create") words
+
+backup_command_met : (name : Text) (words : List Text) → subcommand_of program (name ∷ codes "backup" ∷ words) ≡ Some (codes "backup", rows_after backup_flags [] words)
+unfolding clap_on_literals
+backup_command_met name words = met_at (codes "backup") words
+
+version_command_met : (name : Text) (words : List Text) → subcommand_of program (name ∷ codes "version" ∷ words) ≡ Some (codes "version", rows_after version_flags [] words)
+unfolding clap_on_literals
+version_command_met name words = met_at (codes "version") words
+
+manual_command_met : (name : Text) (words : List Text) → subcommand_of program (name ∷ codes "manual" ∷ words) ≡ Some (codes "manual", rows_after manual_flags [] words)
+unfolding clap_on_literals
+manual_command_met name words = met_at (codes "manual") words
+
 -- the words behind a command with options ask for no other command
 is_by : (by : List Use → Asked) (command : Text) → ((uses : List Use) → command ≡ command_of (by uses)) → (read : Option (List Use)) (asked : Asked) → option_map by read ≡ Some asked → command ≡ command_of asked
 is_by by command is None asked named = absurd (none-some asked named)
@@ -538,6 +645,27 @@ convert_is_met name rest asked named = record {
   rows = rows_after convert_flags [] rest;
   met = convert_command_met name rest ∙ ap (λ command. Some (command, rows_after convert_flags [] rest)) (is_by converted_by (codes "convert") (λ uses. refl) (uses_and_two_paths convert_names rest) asked named);
   values = convert_met rest asked named;
+}
+
+create_is_met : (name : Text) (rest : List Text) (asked : Asked) → create_asked rest ≡ Some asked → Meets program (name ∷ codes "create" ∷ rest) asked
+create_is_met name rest asked named = record {
+  rows = rows_after pairs_flags [] rest;
+  met = create_command_met name rest ∙ ap (λ command. Some (command, rows_after pairs_flags [] rest)) (is_by created_by (codes "create") (λ uses. refl) (uses_and_path pairs_names rest) asked named);
+  values = create_met rest asked named;
+}
+
+backup_is_met : (name : Text) (rest : List Text) (asked : Asked) → backup_asked rest ≡ Some asked → Meets program (name ∷ codes "backup" ∷ rest) asked
+backup_is_met name rest asked named = record {
+  rows = rows_after backup_flags [] rest;
+  met = backup_command_met name rest ∙ ap (λ command. Some (command, rows_after backup_flags [] rest)) (is_by backed_by (codes "backup") (λ uses. refl) (uses_and_two_paths [] rest) asked named);
+  values = backup_met rest asked named;
+}
+
+version_is_met : (name : Text) (rest : List Text) (asked : Asked) → version_asked rest ≡ Some asked → Meets program (name ∷ codes "version" ∷ rest) asked
+version_is_met name rest asked named = record {
+  rows = rows_after version_flags [] rest;
+  met = version_command_met name rest ∙ ap (λ command. Some (command, rows_after version_flags [] rest)) (is_by versioned_by (codes "version") (λ uses. refl) (uses_named [] rest) asked named);
+  values = version_met rest asked named;
 }
 
 load_is_met : (name : Text) (rest : List Text) (asked : Asked) → load_asked rest ≡ Some asked → Meets program (name ∷ codes "load" ∷ rest) asked
@@ -591,44 +719,60 @@ swap_is_met name rest (Some words) asked named same = let has = swap_met rest wo
   values = (has.path, has.key, has.old, has.new);
 })
 
-command_met : (name word : Text) (rest : List Text) (serves checks dumps loads storms gets puts dels swaps pairs converts : Bool) (asked : Asked) → bytes_eq (codes "serve") word ≡ serves → bytes_eq (codes "check") word ≡ checks → bytes_eq (codes "dump") word ≡ dumps → bytes_eq (codes "load") word ≡ loads → bytes_eq (codes "storm") word ≡ storms → bytes_eq (codes "get") word ≡ gets → bytes_eq (codes "put") word ≡ puts → bytes_eq (codes "del") word ≡ dels → bytes_eq (codes "swap") word ≡ swaps → bytes_eq (codes "pairs") word ≡ pairs → bytes_eq (codes "convert") word ≡ converts
-    → (cond serves (serve_asked rest) (cond checks (option_map Check (path_named rest)) (cond dumps (option_map Dump (path_named rest)) (cond loads (load_asked rest) (cond storms (storm_asked rest) (cond gets (get_asked rest) (cond puts (put_asked rest) (cond dels (del_asked rest) (cond swaps (swap_asked rest) (cond pairs (pairs_asked rest) (cond converts (convert_asked rest) None))))))))))) ≡ Some asked
+manual_is_met : (name : Text) (rest : List Text) (found : Option (Option Text)) (asked : Asked) → word_perhaps rest ≡ found → option_map Manual found ≡ Some asked → Meets program (name ∷ codes "manual" ∷ rest) asked
+manual_is_met name rest None asked named same = absurd (none-some asked same)
+manual_is_met name rest (Some word) asked named same = subst (Meets program (name ∷ codes "manual" ∷ rest)) (some_is same) (record {
+  rows = rows_after manual_flags [] rest;
+  met = manual_command_met name rest;
+  values = manual_met rest word named;
+})
+
+command_met : (name word : Text) (rest : List Text) (serves checks dumps loads storms gets puts dels swaps pairs converts creates backups versions manuals : Bool) (asked : Asked) → bytes_eq (codes "serve") word ≡ serves → bytes_eq (codes "check") word ≡ checks → bytes_eq (codes "dump") word ≡ dumps → bytes_eq (codes "load") word ≡ loads → bytes_eq (codes "storm") word ≡ storms → bytes_eq (codes "get") word ≡ gets → bytes_eq (codes "put") word ≡ puts → bytes_eq (codes "del") word ≡ dels → bytes_eq (codes "swap") word ≡ swaps → bytes_eq (codes "pairs") word ≡ pairs → bytes_eq (codes "convert") word ≡ converts → bytes_eq (codes "create") word ≡ creates → bytes_eq (codes "backup") word ≡ backups → bytes_eq (codes "version") word ≡ versions → bytes_eq (codes "manual") word ≡ manuals
+    → (cond serves (serve_asked rest) (cond checks (option_map Check (path_named rest)) (cond dumps (option_map Dump (path_named rest)) (cond loads (load_asked rest) (cond storms (storm_asked rest) (cond gets (get_asked rest) (cond puts (put_asked rest) (cond dels (del_asked rest) (cond swaps (swap_asked rest) (cond pairs (pairs_asked rest) (cond converts (convert_asked rest) (cond creates (create_asked rest) (cond backups (backup_asked rest) (cond versions (version_asked rest) (cond manuals (manual_asked rest) None))))))))))))))) ≡ Some asked
     → Meets program (name ∷ word ∷ rest) asked
-command_met name word rest true checks dumps loads storms gets puts dels swaps pairs converts asked s c d l o g p e w i v named =
+command_met name word rest true checks dumps loads storms gets puts dels swaps pairs converts creates backups versions manuals asked s c d l o g p e w i v r b n m named =
     subst (λ w. Meets program (name ∷ w ∷ rest) asked) (is_name (codes "serve") word s) (serve_is_met name rest asked named)
-command_met name word rest false true dumps loads storms gets puts dels swaps pairs converts asked s c d l o g p e w i v named =
+command_met name word rest false true dumps loads storms gets puts dels swaps pairs converts creates backups versions manuals asked s c d l o g p e w i v r b n m named =
     subst (λ w. Meets program (name ∷ w ∷ rest) asked) (is_name (codes "check") word c) (path_is_met name (codes "check") Check (λ path. refl) (λ path rows is. is) rest (check_met name rest) (path_named rest) asked refl named)
-command_met name word rest false false true loads storms gets puts dels swaps pairs converts asked s c d l o g p e w i v named =
+command_met name word rest false false true loads storms gets puts dels swaps pairs converts creates backups versions manuals asked s c d l o g p e w i v r b n m named =
     subst (λ w. Meets program (name ∷ w ∷ rest) asked) (is_name (codes "dump") word d) (path_is_met name (codes "dump") Dump (λ path. refl) (λ path rows is. is) rest (dump_met name rest) (path_named rest) asked refl named)
-command_met name word rest false false false true storms gets puts dels swaps pairs converts asked s c d l o g p e w i v named =
+command_met name word rest false false false true storms gets puts dels swaps pairs converts creates backups versions manuals asked s c d l o g p e w i v r b n m named =
     subst (λ w. Meets program (name ∷ w ∷ rest) asked) (is_name (codes "load") word l) (load_is_met name rest asked named)
-command_met name word rest false false false false true gets puts dels swaps pairs converts asked s c d l o g p e w i v named =
+command_met name word rest false false false false true gets puts dels swaps pairs converts creates backups versions manuals asked s c d l o g p e w i v r b n m named =
     subst (λ w. Meets program (name ∷ w ∷ rest) asked) (is_name (codes "storm") word o) (storm_is_met name rest asked named)
-command_met name word rest false false false false false true puts dels swaps pairs converts asked s c d l o g p e w i v named =
+command_met name word rest false false false false false true puts dels swaps pairs converts creates backups versions manuals asked s c d l o g p e w i v r b n m named =
     subst (λ w. Meets program (name ∷ w ∷ rest) asked) (is_name (codes "get") word g) (get_is_met name rest (path_and_key rest) asked refl named)
-command_met name word rest false false false false false false true dels swaps pairs converts asked s c d l o g p e w i v named =
+command_met name word rest false false false false false false true dels swaps pairs converts creates backups versions manuals asked s c d l o g p e w i v r b n m named =
     subst (λ w. Meets program (name ∷ w ∷ rest) asked) (is_name (codes "put") word p) (put_is_met name rest (path_and_two rest) asked refl named)
-command_met name word rest false false false false false false false true swaps pairs converts asked s c d l o g p e w i v named =
+command_met name word rest false false false false false false false true swaps pairs converts creates backups versions manuals asked s c d l o g p e w i v r b n m named =
     subst (λ w. Meets program (name ∷ w ∷ rest) asked) (is_name (codes "del") word e) (del_is_met name rest (path_and_key rest) asked refl named)
-command_met name word rest false false false false false false false false true pairs converts asked s c d l o g p e w i v named =
+command_met name word rest false false false false false false false false true pairs converts creates backups versions manuals asked s c d l o g p e w i v r b n m named =
     subst (λ w. Meets program (name ∷ w ∷ rest) asked) (is_name (codes "swap") word w) (swap_is_met name rest (path_and_three rest) asked refl named)
-command_met name word rest false false false false false false false false false true converts asked s c d l o g p e w i v named =
+command_met name word rest false false false false false false false false false true converts creates backups versions manuals asked s c d l o g p e w i v r b n m named =
     subst (λ w. Meets program (name ∷ w ∷ rest) asked) (is_name (codes "pairs") word i) (pairs_is_met name rest asked named)
-command_met name word rest false false false false false false false false false false true asked s c d l o g p e w i v named =
+command_met name word rest false false false false false false false false false false true creates backups versions manuals asked s c d l o g p e w i v r b n m named =
     subst (λ w. Meets program (name ∷ w ∷ rest) asked) (is_name (codes "convert") word v) (convert_is_met name rest asked named)
-command_met name word rest false false false false false false false false false false false asked s c d l o g p e w i v named = absurd (none-some asked named)
+command_met name word rest false false false false false false false false false false false true backups versions manuals asked s c d l o g p e w i v r b n m named =
+    subst (λ w. Meets program (name ∷ w ∷ rest) asked) (is_name (codes "create") word r) (create_is_met name rest asked named)
+command_met name word rest false false false false false false false false false false false false true versions manuals asked s c d l o g p e w i v r b n m named =
+    subst (λ w. Meets program (name ∷ w ∷ rest) asked) (is_name (codes "backup") word b) (backup_is_met name rest asked named)
+command_met name word rest false false false false false false false false false false false false false true manuals asked s c d l o g p e w i v r b n m named =
+    subst (λ w. Meets program (name ∷ w ∷ rest) asked) (is_name (codes "version") word n) (version_is_met name rest asked named)
+command_met name word rest false false false false false false false false false false false false false false true asked s c d l o g p e w i v r b n m named =
+    subst (λ w. Meets program (name ∷ w ∷ rest) asked) (is_name (codes "manual") word m) (manual_is_met name rest (word_perhaps rest) asked refl named)
+command_met name word rest false false false false false false false false false false false false false false false asked s c d l o g p e w i v r b n m named = absurd (none-some asked named)
 
 asked_met : (words : List Text) (asked : Asked) → asked_by words ≡ Some asked → Meets program words asked
 asked_met [] asked named = absurd (none-some asked named)
 asked_met (name ∷ []) asked named = absurd (none-some asked named)
 asked_met (name ∷ command ∷ rest) asked named =
-    command_met name command rest (bytes_eq (codes "serve") command) (bytes_eq (codes "check") command) (bytes_eq (codes "dump") command) (bytes_eq (codes "load") command) (bytes_eq (codes "storm") command) (bytes_eq (codes "get") command) (bytes_eq (codes "put") command) (bytes_eq (codes "del") command) (bytes_eq (codes "swap") command) (bytes_eq (codes "pairs") command) (bytes_eq (codes "convert") command) asked refl refl refl refl refl refl refl refl refl refl refl named
+    command_met name command rest (bytes_eq (codes "serve") command) (bytes_eq (codes "check") command) (bytes_eq (codes "dump") command) (bytes_eq (codes "load") command) (bytes_eq (codes "storm") command) (bytes_eq (codes "get") command) (bytes_eq (codes "put") command) (bytes_eq (codes "del") command) (bytes_eq (codes "swap") command) (bytes_eq (codes "pairs") command) (bytes_eq (codes "convert") command) (bytes_eq (codes "create") command) (bytes_eq (codes "backup") command) (bytes_eq (codes "version") command) (bytes_eq (codes "manual") command) asked refl refl refl refl refl refl refl refl refl refl refl refl refl refl refl named
 
 -- ---- the version
 
-version_asked : (name : Text) → fault_of program (name ∷ codes "--version" ∷ []) ≡ kind.DisplayVersion ∷ []
+version_shown : (name : Text) → fault_of program (name ∷ codes "--version" ∷ []) ≡ kind.DisplayVersion ∷ []
 unfolding clap_on_literals
-version_asked name = refl
+version_shown name = refl
 
 -- the program's parser takes just the words that ask for a command
 pub program_reads : ReadsJobs program
@@ -636,7 +780,7 @@ program_reads = record {
   exact = is_exact;
   takes = λ words. agreed (asked_by words) (fault_of program words) (words_agree words);
   meets = asked_met;
-  version = version_asked;
+  version = version_shown;
 }
 
 -- ---- a parse that succeeds
@@ -690,6 +834,10 @@ own_of m command own known named behind same asked is = subst (λ command. IsOwn
 
 pub serves : (asked : Asked) (own : ArgMatches) (opened saved : Option Text) → IsOwn (codes "serve") own asked → opened ≡ first_value (found_of own) open_name → saved ≡ first_value (found_of own) save_name
     → Some asked ≡ Some (Serve opened saved)
+serves (Create file texts) own opened saved is opens saves = absurd (let never : 115 ≡ 99 = ap (λ (word : Text). slice_index_or word 0 0) is.command_is in omega arith)
+serves (Backup file new) own opened saved is opens saves = absurd (let never : 115 ≡ 98 = ap (λ (word : Text). slice_index_or word 0 0) is.command_is in omega arith)
+serves Version own opened saved is opens saves = absurd (let never : 115 ≡ 118 = ap (λ (word : Text). slice_index_or word 0 0) is.command_is in omega arith)
+serves (Manual command) own opened saved is opens saves = absurd (let never : 115 ≡ 109 = ap (λ (word : Text). slice_index_or word 0 0) is.command_is in omega arith)
 serves (Serve opening saving) own opened saved is opens saves =
     ap₂ (λ opened saved. Some (Serve opened saved)) (sym (opens ∙ first_value-rows (found_of own) open_name ∙ is.values.0)) (sym (saves ∙ first_value-rows (found_of own) save_name ∙ is.values.1))
 serves (Check path) own opened saved is opens saves = absurd (let never : 115 ≡ 99 = ap (λ (word : Text). slice_index_or word 0 0) is.command_is in omega arith)
@@ -711,6 +859,10 @@ has_path : (own : ArgMatches) (path : Text) → first_of path_id (rows_of (found
 has_path own path is = subst IsSome (sym (first_value-rows (found_of own) path_id ∙ is)) refl
 
 pub checks : (asked : Asked) (own : ArgMatches) → IsOwn (codes "check") own asked → (path : Text) → Some path ≡ first_value (found_of own) path_id → Some asked ≡ Some (Check path)
+checks (Create file texts) own is path read = absurd (let never : 104 ≡ 114 = ap (λ (word : Text). slice_index_or word 1 0) is.command_is in omega arith)
+checks (Backup file new) own is path read = absurd (let never : 99 ≡ 98 = ap (λ (word : Text). slice_index_or word 0 0) is.command_is in omega arith)
+checks Version own is path read = absurd (let never : 99 ≡ 118 = ap (λ (word : Text). slice_index_or word 0 0) is.command_is in omega arith)
+checks (Manual command) own is path read = absurd (let never : 99 ≡ 109 = ap (λ (word : Text). slice_index_or word 0 0) is.command_is in omega arith)
 checks (Serve opening saving) own is path read = absurd (let never : 99 ≡ 115 = ap (λ (word : Text). slice_index_or word 0 0) is.command_is in omega arith)
 checks (Check other) own is path read = ap (λ path. Some (Check path)) (same_path own other path is.values read)
 checks (Dump other) own is path read = absurd (let never : 99 ≡ 100 = ap (λ (word : Text). slice_index_or word 0 0) is.command_is in omega arith)
@@ -724,6 +876,10 @@ checks (Convert file new version) own is path read = absurd (let never : 104 ≡
 checks (Pairs file texts) own is path read = absurd (let never : 99 ≡ 112 = ap (λ (word : Text). slice_index_or word 0 0) is.command_is in omega arith)
 
 pub dumps : (asked : Asked) (own : ArgMatches) → IsOwn (codes "dump") own asked → (path : Text) → Some path ≡ first_value (found_of own) path_id → Some asked ≡ Some (Dump path)
+dumps (Create file texts) own is path read = absurd (let never : 100 ≡ 99 = ap (λ (word : Text). slice_index_or word 0 0) is.command_is in omega arith)
+dumps (Backup file new) own is path read = absurd (let never : 100 ≡ 98 = ap (λ (word : Text). slice_index_or word 0 0) is.command_is in omega arith)
+dumps Version own is path read = absurd (let never : 100 ≡ 118 = ap (λ (word : Text). slice_index_or word 0 0) is.command_is in omega arith)
+dumps (Manual command) own is path read = absurd (let never : 100 ≡ 109 = ap (λ (word : Text). slice_index_or word 0 0) is.command_is in omega arith)
 dumps (Serve opening saving) own is path read = absurd (let never : 100 ≡ 115 = ap (λ (word : Text). slice_index_or word 0 0) is.command_is in omega arith)
 dumps (Check other) own is path read = absurd (let never : 100 ≡ 99 = ap (λ (word : Text). slice_index_or word 0 0) is.command_is in omega arith)
 dumps (Dump other) own is path read = ap (λ path. Some (Dump path)) (same_path own other path is.values read)
@@ -746,6 +902,10 @@ pub record GivesLoad (asked : Asked) (own : ArgMatches) : Type 0 where
   pub flags : HasFlags (found_of own) long into
 
 pub loads : (asked : Asked) (own : ArgMatches) → IsOwn (codes "load") own asked → GivesLoad asked own
+loads (Create file texts) own is = absurd (let never : 108 ≡ 99 = ap (λ (word : Text). slice_index_or word 0 0) is.command_is in omega arith)
+loads (Backup file new) own is = absurd (let never : 108 ≡ 98 = ap (λ (word : Text). slice_index_or word 0 0) is.command_is in omega arith)
+loads Version own is = absurd (let never : 108 ≡ 118 = ap (λ (word : Text). slice_index_or word 0 0) is.command_is in omega arith)
+loads (Manual command) own is = absurd (let never : 108 ≡ 109 = ap (λ (word : Text). slice_index_or word 0 0) is.command_is in omega arith)
 loads (Serve opening saving) own is = absurd (let never : 108 ≡ 115 = ap (λ (word : Text). slice_index_or word 0 0) is.command_is in omega arith)
 loads (Check path) own is = absurd (let never : 108 ≡ 99 = ap (λ (word : Text). slice_index_or word 0 0) is.command_is in omega arith)
 loads (Dump path) own is = absurd (let never : 108 ≡ 100 = ap (λ (word : Text). slice_index_or word 0 0) is.command_is in omega arith)
@@ -770,6 +930,10 @@ same_text : (own : ArgMatches) (name : Text) (text : Option Text) → first_of n
 same_text own name text is = sym (first_value-rows (found_of own) name ∙ is)
 
 pub storms : (asked : Asked) (own : ArgMatches) → IsOwn (codes "storm") own asked → Some asked ≡ Some (Storm (texts_of (found_of own)))
+storms (Create file texts) own is = absurd (let never : 115 ≡ 99 = ap (λ (word : Text). slice_index_or word 0 0) is.command_is in omega arith)
+storms (Backup file new) own is = absurd (let never : 115 ≡ 98 = ap (λ (word : Text). slice_index_or word 0 0) is.command_is in omega arith)
+storms Version own is = absurd (let never : 115 ≡ 118 = ap (λ (word : Text). slice_index_or word 0 0) is.command_is in omega arith)
+storms (Manual command) own is = absurd (let never : 115 ≡ 109 = ap (λ (word : Text). slice_index_or word 0 0) is.command_is in omega arith)
 storms (Serve opening saving) own is = absurd (let never : 116 ≡ 101 = ap (λ (word : Text). slice_index_or word 1 0) is.command_is in omega arith)
 storms (Check path) own is = absurd (let never : 115 ≡ 99 = ap (λ (word : Text). slice_index_or word 0 0) is.command_is in omega arith)
 storms (Dump path) own is = absurd (let never : 115 ≡ 100 = ap (λ (word : Text). slice_index_or word 0 0) is.command_is in omega arith)
@@ -792,8 +956,8 @@ storms (Storm texts) own is = ap (λ texts. Some (Storm texts)) (same_texts is.v
         ap₂ (λ (p : Option Text × Option Text) (q : Option Text × Option Text × Option Text). record { callers = p.0; calls = p.1; cap = q.0; wards = q.1; copies = q.2 })
         (ap₂ (λ a b. (a, b)) callers calls) (ap₂ (λ a (b : Option Text × Option Text). (a, b.0, b.1)) cap (ap₂ (λ a b. (a, b)) wards copies))
 
--- a command but `serve` and `storm` is given a path
-pub path_given : (asked : Asked) (command : Text) (own : ArgMatches) → IsOwn command own asked → (command ≡ codes "serve" → ⊥) × (command ≡ codes "storm" → ⊥) → IsSome (first_value (found_of own) path_id)
+-- a command but `serve`, `storm`, `version` and `manual` is given a path
+pub path_given : (asked : Asked) (command : Text) (own : ArgMatches) → IsOwn command own asked → (command ≡ codes "serve" → ⊥) × (command ≡ codes "storm" → ⊥) × (command ≡ codes "version" → ⊥) × (command ≡ codes "manual" → ⊥) → IsSome (first_value (found_of own) path_id)
 path_given (Serve opening saving) command own is other = absurd (other.0 is.command_is)
 path_given (Check path) command own is other = has_path own path is.values
 path_given (Dump path) command own is other = has_path own path is.values
@@ -805,6 +969,10 @@ path_given (Del path key) command own is other = has_path own path is.values.0
 path_given (Swap path key old new) command own is other = has_path own path is.values.0
 path_given (Convert path new version) command own is other = has_path own path is.values.0
 path_given (Pairs path texts) command own is other = has_path own path is.values.0
+path_given (Create path texts) command own is other = has_path own path is.values.0
+path_given (Backup path new) command own is other = has_path own path is.values.0
+path_given Version command own is other = absurd (other.2 is.command_is)
+path_given (Manual word) command own is other = absurd (other.3 is.command_is)
 
 -- a get's words, as they were read
 pub key_given : (asked : Asked) (own : ArgMatches) → IsOwn (codes "get") own asked → IsSome (first_value (found_of own) key_id)
@@ -819,6 +987,10 @@ key_given (Del path key) own is = absurd (let never : 103 ≡ 100 = ap (λ (word
 key_given (Swap path key old new) own is = absurd (let never : 103 ≡ 115 = ap (λ (word : Text). slice_index_or word 0 0) is.command_is in omega arith)
 key_given (Convert path new version) own is = absurd (let never : 103 ≡ 99 = ap (λ (word : Text). slice_index_or word 0 0) is.command_is in omega arith)
 key_given (Pairs path texts) own is = absurd (let never : 103 ≡ 112 = ap (λ (word : Text). slice_index_or word 0 0) is.command_is in omega arith)
+key_given (Create path texts) own is = absurd (let never : 103 ≡ 99 = ap (λ (word : Text). slice_index_or word 0 0) is.command_is in omega arith)
+key_given (Backup path new) own is = absurd (let never : 103 ≡ 98 = ap (λ (word : Text). slice_index_or word 0 0) is.command_is in omega arith)
+key_given Version own is = absurd (let never : 103 ≡ 118 = ap (λ (word : Text). slice_index_or word 0 0) is.command_is in omega arith)
+key_given (Manual word) own is = absurd (let never : 103 ≡ 109 = ap (λ (word : Text). slice_index_or word 0 0) is.command_is in omega arith)
 
 pub record GivesKey (asked : Asked) (own : ArgMatches) : Type 0 where
   pub path : Text
@@ -828,6 +1000,10 @@ pub record GivesKey (asked : Asked) (own : ArgMatches) : Type 0 where
   pub word_is : Some word ≡ first_value (found_of own) key_id
 
 pub gets : (asked : Asked) (own : ArgMatches) → IsOwn (codes "get") own asked → GivesKey asked own
+gets (Create file texts) own is = absurd (let never : 103 ≡ 99 = ap (λ (word : Text). slice_index_or word 0 0) is.command_is in omega arith)
+gets (Backup file new) own is = absurd (let never : 103 ≡ 98 = ap (λ (word : Text). slice_index_or word 0 0) is.command_is in omega arith)
+gets Version own is = absurd (let never : 103 ≡ 118 = ap (λ (word : Text). slice_index_or word 0 0) is.command_is in omega arith)
+gets (Manual command) own is = absurd (let never : 103 ≡ 109 = ap (λ (word : Text). slice_index_or word 0 0) is.command_is in omega arith)
 gets (Serve opening saving) own is = absurd (let never : 103 ≡ 115 = ap (λ (word : Text). slice_index_or word 0 0) is.command_is in omega arith)
 gets (Check path) own is = absurd (let never : 103 ≡ 99 = ap (λ (word : Text). slice_index_or word 0 0) is.command_is in omega arith)
 gets (Dump path) own is = absurd (let never : 103 ≡ 100 = ap (λ (word : Text). slice_index_or word 0 0) is.command_is in omega arith)
@@ -857,6 +1033,10 @@ pub record GivesPut (asked : Asked) (own : ArgMatches) : Type 0 where
   pub value_is : Some value ≡ first_value (found_of own) value_id
 
 pub puts : (asked : Asked) (own : ArgMatches) → IsOwn (codes "put") own asked → GivesPut asked own
+puts (Create file texts) own is = absurd (let never : 112 ≡ 99 = ap (λ (word : Text). slice_index_or word 0 0) is.command_is in omega arith)
+puts (Backup file new) own is = absurd (let never : 112 ≡ 98 = ap (λ (word : Text). slice_index_or word 0 0) is.command_is in omega arith)
+puts Version own is = absurd (let never : 112 ≡ 118 = ap (λ (word : Text). slice_index_or word 0 0) is.command_is in omega arith)
+puts (Manual command) own is = absurd (let never : 112 ≡ 109 = ap (λ (word : Text). slice_index_or word 0 0) is.command_is in omega arith)
 puts (Serve opening saving) own is = absurd (let never : 112 ≡ 115 = ap (λ (word : Text). slice_index_or word 0 0) is.command_is in omega arith)
 puts (Check path) own is = absurd (let never : 112 ≡ 99 = ap (λ (word : Text). slice_index_or word 0 0) is.command_is in omega arith)
 puts (Dump path) own is = absurd (let never : 112 ≡ 100 = ap (λ (word : Text). slice_index_or word 0 0) is.command_is in omega arith)
@@ -886,6 +1066,10 @@ pub record GivesDel (asked : Asked) (own : ArgMatches) : Type 0 where
   pub key_is : Some key ≡ first_value (found_of own) key_id
 
 pub dels : (asked : Asked) (own : ArgMatches) → IsOwn (codes "del") own asked → GivesDel asked own
+dels (Create file texts) own is = absurd (let never : 100 ≡ 99 = ap (λ (word : Text). slice_index_or word 0 0) is.command_is in omega arith)
+dels (Backup file new) own is = absurd (let never : 100 ≡ 98 = ap (λ (word : Text). slice_index_or word 0 0) is.command_is in omega arith)
+dels Version own is = absurd (let never : 100 ≡ 118 = ap (λ (word : Text). slice_index_or word 0 0) is.command_is in omega arith)
+dels (Manual command) own is = absurd (let never : 100 ≡ 109 = ap (λ (word : Text). slice_index_or word 0 0) is.command_is in omega arith)
 dels (Serve opening saving) own is = absurd (let never : 100 ≡ 115 = ap (λ (word : Text). slice_index_or word 0 0) is.command_is in omega arith)
 dels (Check path) own is = absurd (let never : 100 ≡ 99 = ap (λ (word : Text). slice_index_or word 0 0) is.command_is in omega arith)
 dels (Dump path) own is = absurd (let never : 101 ≡ 117 = ap (λ (word : Text). slice_index_or word 1 0) is.command_is in omega arith)
@@ -917,6 +1101,10 @@ pub record GivesSwap (asked : Asked) (own : ArgMatches) : Type 0 where
   pub new_is : Some new ≡ first_value (found_of own) new_id
 
 pub swaps : (asked : Asked) (own : ArgMatches) → IsOwn (codes "swap") own asked → GivesSwap asked own
+swaps (Create file texts) own is = absurd (let never : 115 ≡ 99 = ap (λ (word : Text). slice_index_or word 0 0) is.command_is in omega arith)
+swaps (Backup file new) own is = absurd (let never : 115 ≡ 98 = ap (λ (word : Text). slice_index_or word 0 0) is.command_is in omega arith)
+swaps Version own is = absurd (let never : 115 ≡ 118 = ap (λ (word : Text). slice_index_or word 0 0) is.command_is in omega arith)
+swaps (Manual command) own is = absurd (let never : 115 ≡ 109 = ap (λ (word : Text). slice_index_or word 0 0) is.command_is in omega arith)
 swaps (Serve opening saving) own is = absurd (let never : 119 ≡ 101 = ap (λ (word : Text). slice_index_or word 1 0) is.command_is in omega arith)
 swaps (Check path) own is = absurd (let never : 115 ≡ 99 = ap (λ (word : Text). slice_index_or word 0 0) is.command_is in omega arith)
 swaps (Dump path) own is = absurd (let never : 115 ≡ 100 = ap (λ (word : Text). slice_index_or word 0 0) is.command_is in omega arith)
@@ -939,6 +1127,11 @@ swaps (Swap path key old new) own is = record {
   new_is = sym (first_value-rows (found_of own) new_id ∙ is.values.3);
 }
 
+same_texts : (own : ArgMatches) (texts : PairsTexts) → HasPairsTexts texts (rows_of (found_of own)) → texts ≡ pairs_texts_of (found_of own)
+same_texts own texts has =
+    ap₂ (λ cap (p : Option Text × Option Text). record { cap = cap; wards = p.0; keyer = p.1 }) (same_text own cap_name texts.cap has.cap)
+    (ap₂ (λ a b. (a, b)) (same_text own wards_name texts.wards has.wards) (same_text own keyer_name texts.keyer has.keyer))
+
 -- the path of pairs, and its texts, as they were read
 pub record GivesPairs (asked : Asked) (own : ArgMatches) : Type 0 where
   pub path : Text
@@ -946,6 +1139,10 @@ pub record GivesPairs (asked : Asked) (own : ArgMatches) : Type 0 where
   pub path_is : Some path ≡ first_value (found_of own) path_id
 
 pub pairs : (asked : Asked) (own : ArgMatches) → IsOwn (codes "pairs") own asked → GivesPairs asked own
+pairs (Create file texts) own is = absurd (let never : 112 ≡ 99 = ap (λ (word : Text). slice_index_or word 0 0) is.command_is in omega arith)
+pairs (Backup file new) own is = absurd (let never : 112 ≡ 98 = ap (λ (word : Text). slice_index_or word 0 0) is.command_is in omega arith)
+pairs Version own is = absurd (let never : 112 ≡ 118 = ap (λ (word : Text). slice_index_or word 0 0) is.command_is in omega arith)
+pairs (Manual command) own is = absurd (let never : 112 ≡ 109 = ap (λ (word : Text). slice_index_or word 0 0) is.command_is in omega arith)
 pairs (Serve opening saving) own is = absurd (let never : 112 ≡ 115 = ap (λ (word : Text). slice_index_or word 0 0) is.command_is in omega arith)
 pairs (Check path) own is = absurd (let never : 112 ≡ 99 = ap (λ (word : Text). slice_index_or word 0 0) is.command_is in omega arith)
 pairs (Dump path) own is = absurd (let never : 112 ≡ 100 = ap (λ (word : Text). slice_index_or word 0 0) is.command_is in omega arith)
@@ -958,14 +1155,9 @@ pairs (Swap path key old new) own is = absurd (let never : 112 ≡ 115 = ap (λ 
 pairs (Convert path new version) own is = absurd (let never : 112 ≡ 99 = ap (λ (word : Text). slice_index_or word 0 0) is.command_is in omega arith)
 pairs (Pairs path texts) own is = record {
   path = path;
-  asked_is = ap (λ texts. Some (Pairs path texts)) (same_texts is.values.1);
+  asked_is = ap (λ texts. Some (Pairs path texts)) (same_texts own texts is.values.1);
   path_is = sym (first_value-rows (found_of own) path_id ∙ is.values.0);
 }
-  where
-    same_texts : HasPairsTexts texts (rows_of (found_of own)) → texts ≡ pairs_texts_of (found_of own)
-    same_texts has =
-        ap₂ (λ cap (p : Option Text × Option Text). record { cap = cap; wards = p.0; keyer = p.1 }) (same_text own cap_name texts.cap has.cap)
-        (ap₂ (λ a b. (a, b)) (same_text own wards_name texts.wards has.wards) (same_text own keyer_name texts.keyer has.keyer))
 
 -- the paths of a conversion, and the text of its version, as they were read
 pub record GivesConvert (asked : Asked) (own : ArgMatches) : Type 0 where
@@ -976,6 +1168,10 @@ pub record GivesConvert (asked : Asked) (own : ArgMatches) : Type 0 where
   pub new_is : Some new ≡ first_value (found_of own) new_id
 
 pub converts : (asked : Asked) (own : ArgMatches) → IsOwn (codes "convert") own asked → GivesConvert asked own
+converts (Create file texts) own is = absurd (let never : 111 ≡ 114 = ap (λ (word : Text). slice_index_or word 1 0) is.command_is in omega arith)
+converts (Backup file new) own is = absurd (let never : 99 ≡ 98 = ap (λ (word : Text). slice_index_or word 0 0) is.command_is in omega arith)
+converts Version own is = absurd (let never : 99 ≡ 118 = ap (λ (word : Text). slice_index_or word 0 0) is.command_is in omega arith)
+converts (Manual command) own is = absurd (let never : 99 ≡ 109 = ap (λ (word : Text). slice_index_or word 0 0) is.command_is in omega arith)
 converts (Serve opening saving) own is = absurd (let never : 99 ≡ 115 = ap (λ (word : Text). slice_index_or word 0 0) is.command_is in omega arith)
 converts (Check path) own is = absurd (let never : 111 ≡ 104 = ap (λ (word : Text). slice_index_or word 1 0) is.command_is in omega arith)
 converts (Dump path) own is = absurd (let never : 99 ≡ 100 = ap (λ (word : Text). slice_index_or word 0 0) is.command_is in omega arith)
@@ -994,28 +1190,129 @@ converts (Convert path new version) own is = record {
   new_is = sym (first_value-rows (found_of own) new_id ∙ is.values.1);
 }
 
-pub no_options : (command : Text) → (command ≡ codes "check") ⊎ (command ≡ codes "dump") ⊎ (command ≡ codes "load") ⊎ (command ≡ codes "get") → (command ≡ codes "serve" → ⊥) × (command ≡ codes "storm" → ⊥)
-no_options command is = (λ same. begins_apart is (ap (λ (word : Text). slice_index_or word 0 0) same), λ same. begins_apart is (ap (λ (word : Text). slice_index_or word 0 0) same))
+-- the path of a new file, and its texts, as they were read
+pub record GivesCreate (asked : Asked) (own : ArgMatches) : Type 0 where
+  pub path : Text
+  pub asked_is : Some asked ≡ Some (Create path (pairs_texts_of (found_of own)))
+  pub path_is : Some path ≡ first_value (found_of own) path_id
+
+pub creates : (asked : Asked) (own : ArgMatches) → IsOwn (codes "create") own asked → GivesCreate asked own
+creates (Serve opening saving) own is = absurd (let never : 99 ≡ 115 = ap (λ (word : Text). slice_index_or word 0 0) is.command_is in omega arith)
+creates (Check path) own is = absurd (let never : 114 ≡ 104 = ap (λ (word : Text). slice_index_or word 1 0) is.command_is in omega arith)
+creates (Dump path) own is = absurd (let never : 99 ≡ 100 = ap (λ (word : Text). slice_index_or word 0 0) is.command_is in omega arith)
+creates (Load path long into) own is = absurd (let never : 99 ≡ 108 = ap (λ (word : Text). slice_index_or word 0 0) is.command_is in omega arith)
+creates (Storm texts) own is = absurd (let never : 99 ≡ 115 = ap (λ (word : Text). slice_index_or word 0 0) is.command_is in omega arith)
+creates (Get path word) own is = absurd (let never : 99 ≡ 103 = ap (λ (word : Text). slice_index_or word 0 0) is.command_is in omega arith)
+creates (Put path key value) own is = absurd (let never : 99 ≡ 112 = ap (λ (word : Text). slice_index_or word 0 0) is.command_is in omega arith)
+creates (Del path key) own is = absurd (let never : 99 ≡ 100 = ap (λ (word : Text). slice_index_or word 0 0) is.command_is in omega arith)
+creates (Swap path key old new) own is = absurd (let never : 99 ≡ 115 = ap (λ (word : Text). slice_index_or word 0 0) is.command_is in omega arith)
+creates (Convert path new version) own is = absurd (let never : 114 ≡ 111 = ap (λ (word : Text). slice_index_or word 1 0) is.command_is in omega arith)
+creates (Pairs path texts) own is = absurd (let never : 99 ≡ 112 = ap (λ (word : Text). slice_index_or word 0 0) is.command_is in omega arith)
+creates (Backup path new) own is = absurd (let never : 99 ≡ 98 = ap (λ (word : Text). slice_index_or word 0 0) is.command_is in omega arith)
+creates Version own is = absurd (let never : 99 ≡ 118 = ap (λ (word : Text). slice_index_or word 0 0) is.command_is in omega arith)
+creates (Manual command) own is = absurd (let never : 99 ≡ 109 = ap (λ (word : Text). slice_index_or word 0 0) is.command_is in omega arith)
+creates (Create path texts) own is = record {
+  path = path;
+  asked_is = ap (λ texts. Some (Create path texts)) (same_texts own texts is.values.1);
+  path_is = sym (first_value-rows (found_of own) path_id ∙ is.values.0);
+}
+
+-- the paths of a copy, as they were read
+pub record GivesBackup (asked : Asked) (own : ArgMatches) : Type 0 where
+  pub path : Text
+  pub new : Text
+  pub asked_is : Some asked ≡ Some (Backup path new)
+  pub path_is : Some path ≡ first_value (found_of own) path_id
+  pub new_is : Some new ≡ first_value (found_of own) new_id
+
+pub backups : (asked : Asked) (own : ArgMatches) → IsOwn (codes "backup") own asked → GivesBackup asked own
+backups (Serve opening saving) own is = absurd (let never : 98 ≡ 115 = ap (λ (word : Text). slice_index_or word 0 0) is.command_is in omega arith)
+backups (Check path) own is = absurd (let never : 98 ≡ 99 = ap (λ (word : Text). slice_index_or word 0 0) is.command_is in omega arith)
+backups (Dump path) own is = absurd (let never : 98 ≡ 100 = ap (λ (word : Text). slice_index_or word 0 0) is.command_is in omega arith)
+backups (Load path long into) own is = absurd (let never : 98 ≡ 108 = ap (λ (word : Text). slice_index_or word 0 0) is.command_is in omega arith)
+backups (Storm texts) own is = absurd (let never : 98 ≡ 115 = ap (λ (word : Text). slice_index_or word 0 0) is.command_is in omega arith)
+backups (Get path word) own is = absurd (let never : 98 ≡ 103 = ap (λ (word : Text). slice_index_or word 0 0) is.command_is in omega arith)
+backups (Put path key value) own is = absurd (let never : 98 ≡ 112 = ap (λ (word : Text). slice_index_or word 0 0) is.command_is in omega arith)
+backups (Del path key) own is = absurd (let never : 98 ≡ 100 = ap (λ (word : Text). slice_index_or word 0 0) is.command_is in omega arith)
+backups (Swap path key old new) own is = absurd (let never : 98 ≡ 115 = ap (λ (word : Text). slice_index_or word 0 0) is.command_is in omega arith)
+backups (Convert path new version) own is = absurd (let never : 98 ≡ 99 = ap (λ (word : Text). slice_index_or word 0 0) is.command_is in omega arith)
+backups (Pairs path texts) own is = absurd (let never : 98 ≡ 112 = ap (λ (word : Text). slice_index_or word 0 0) is.command_is in omega arith)
+backups (Create path texts) own is = absurd (let never : 98 ≡ 99 = ap (λ (word : Text). slice_index_or word 0 0) is.command_is in omega arith)
+backups Version own is = absurd (let never : 98 ≡ 118 = ap (λ (word : Text). slice_index_or word 0 0) is.command_is in omega arith)
+backups (Manual command) own is = absurd (let never : 98 ≡ 109 = ap (λ (word : Text). slice_index_or word 0 0) is.command_is in omega arith)
+backups (Backup path new) own is = record {
+  path = path;
+  new = new;
+  asked_is = refl;
+  path_is = sym (first_value-rows (found_of own) path_id ∙ is.values.0);
+  new_is = sym (first_value-rows (found_of own) new_id ∙ is.values.1);
+}
+
+pub versions : (asked : Asked) (own : ArgMatches) → IsOwn (codes "version") own asked → Some asked ≡ Some Version
+versions (Serve opening saving) own is = absurd (let never : 118 ≡ 115 = ap (λ (word : Text). slice_index_or word 0 0) is.command_is in omega arith)
+versions (Check path) own is = absurd (let never : 118 ≡ 99 = ap (λ (word : Text). slice_index_or word 0 0) is.command_is in omega arith)
+versions (Dump path) own is = absurd (let never : 118 ≡ 100 = ap (λ (word : Text). slice_index_or word 0 0) is.command_is in omega arith)
+versions (Load path long into) own is = absurd (let never : 118 ≡ 108 = ap (λ (word : Text). slice_index_or word 0 0) is.command_is in omega arith)
+versions (Storm texts) own is = absurd (let never : 118 ≡ 115 = ap (λ (word : Text). slice_index_or word 0 0) is.command_is in omega arith)
+versions (Get path word) own is = absurd (let never : 118 ≡ 103 = ap (λ (word : Text). slice_index_or word 0 0) is.command_is in omega arith)
+versions (Put path key value) own is = absurd (let never : 118 ≡ 112 = ap (λ (word : Text). slice_index_or word 0 0) is.command_is in omega arith)
+versions (Del path key) own is = absurd (let never : 118 ≡ 100 = ap (λ (word : Text). slice_index_or word 0 0) is.command_is in omega arith)
+versions (Swap path key old new) own is = absurd (let never : 118 ≡ 115 = ap (λ (word : Text). slice_index_or word 0 0) is.command_is in omega arith)
+versions (Convert path new version) own is = absurd (let never : 118 ≡ 99 = ap (λ (word : Text). slice_index_or word 0 0) is.command_is in omega arith)
+versions (Pairs path texts) own is = absurd (let never : 118 ≡ 112 = ap (λ (word : Text). slice_index_or word 0 0) is.command_is in omega arith)
+versions (Create path texts) own is = absurd (let never : 118 ≡ 99 = ap (λ (word : Text). slice_index_or word 0 0) is.command_is in omega arith)
+versions (Backup path new) own is = absurd (let never : 118 ≡ 98 = ap (λ (word : Text). slice_index_or word 0 0) is.command_is in omega arith)
+versions (Manual command) own is = absurd (let never : 118 ≡ 109 = ap (λ (word : Text). slice_index_or word 0 0) is.command_is in omega arith)
+versions Version own is = refl
+
+pub manuals : (asked : Asked) (own : ArgMatches) → IsOwn (codes "manual") own asked → Some asked ≡ Some (Manual (first_value (found_of own) command_id))
+manuals (Serve opening saving) own is = absurd (let never : 109 ≡ 115 = ap (λ (word : Text). slice_index_or word 0 0) is.command_is in omega arith)
+manuals (Check path) own is = absurd (let never : 109 ≡ 99 = ap (λ (word : Text). slice_index_or word 0 0) is.command_is in omega arith)
+manuals (Dump path) own is = absurd (let never : 109 ≡ 100 = ap (λ (word : Text). slice_index_or word 0 0) is.command_is in omega arith)
+manuals (Load path long into) own is = absurd (let never : 109 ≡ 108 = ap (λ (word : Text). slice_index_or word 0 0) is.command_is in omega arith)
+manuals (Storm texts) own is = absurd (let never : 109 ≡ 115 = ap (λ (word : Text). slice_index_or word 0 0) is.command_is in omega arith)
+manuals (Get path word) own is = absurd (let never : 109 ≡ 103 = ap (λ (word : Text). slice_index_or word 0 0) is.command_is in omega arith)
+manuals (Put path key value) own is = absurd (let never : 109 ≡ 112 = ap (λ (word : Text). slice_index_or word 0 0) is.command_is in omega arith)
+manuals (Del path key) own is = absurd (let never : 109 ≡ 100 = ap (λ (word : Text). slice_index_or word 0 0) is.command_is in omega arith)
+manuals (Swap path key old new) own is = absurd (let never : 109 ≡ 115 = ap (λ (word : Text). slice_index_or word 0 0) is.command_is in omega arith)
+manuals (Convert path new version) own is = absurd (let never : 109 ≡ 99 = ap (λ (word : Text). slice_index_or word 0 0) is.command_is in omega arith)
+manuals (Pairs path texts) own is = absurd (let never : 109 ≡ 112 = ap (λ (word : Text). slice_index_or word 0 0) is.command_is in omega arith)
+manuals (Create path texts) own is = absurd (let never : 109 ≡ 99 = ap (λ (word : Text). slice_index_or word 0 0) is.command_is in omega arith)
+manuals (Backup path new) own is = absurd (let never : 109 ≡ 98 = ap (λ (word : Text). slice_index_or word 0 0) is.command_is in omega arith)
+manuals Version own is = absurd (let never : 109 ≡ 118 = ap (λ (word : Text). slice_index_or word 0 0) is.command_is in omega arith)
+manuals (Manual command) own is = ap (λ command. Some (Manual command)) (sym (first_value-rows (found_of own) command_id ∙ is.values))
+
+pub no_options : (command : Text) → (command ≡ codes "check") ⊎ (command ≡ codes "dump") ⊎ (command ≡ codes "load") ⊎ (command ≡ codes "get") → (command ≡ codes "serve" → ⊥) × (command ≡ codes "storm" → ⊥) × (command ≡ codes "version" → ⊥) × (command ≡ codes "manual" → ⊥)
+no_options command is = (
+  λ same. begins_apart 115 is (ap (λ (word : Text). slice_index_or word 0 0) same) (omega arith) (omega arith) (omega arith) (omega arith),
+  λ same. begins_apart 115 is (ap (λ (word : Text). slice_index_or word 0 0) same) (omega arith) (omega arith) (omega arith) (omega arith),
+  λ same. begins_apart 118 is (ap (λ (word : Text). slice_index_or word 0 0) same) (omega arith) (omega arith) (omega arith) (omega arith),
+  λ same. begins_apart 109 is (ap (λ (word : Text). slice_index_or word 0 0) same) (omega arith) (omega arith) (omega arith) (omega arith),
+)
   where
-    begins_apart : (command ≡ codes "check") ⊎ (command ≡ codes "dump") ⊎ (command ≡ codes "load") ⊎ (command ≡ codes "get") → slice_index_or command 0 0 ≡ 115 → ⊥
-    begins_apart (inl is) begins = let never : 99 ≡ 115 = ap (λ (word : Text). slice_index_or word 0 0) (sym is) ∙ begins in absurd (omega (arith, never))
-    begins_apart (inr (inl is)) begins = let never : 100 ≡ 115 = ap (λ (word : Text). slice_index_or word 0 0) (sym is) ∙ begins in absurd (omega (arith, never))
-    begins_apart (inr (inr (inl is))) begins = let never : 108 ≡ 115 = ap (λ (word : Text). slice_index_or word 0 0) (sym is) ∙ begins in absurd (omega (arith, never))
-    begins_apart (inr (inr (inr is))) begins = let never : 103 ≡ 115 = ap (λ (word : Text). slice_index_or word 0 0) (sym is) ∙ begins in absurd (omega (arith, never))
+    begins_apart : (c : ℕ) → (command ≡ codes "check") ⊎ (command ≡ codes "dump") ⊎ (command ≡ codes "load") ⊎ (command ≡ codes "get") → slice_index_or command 0 0 ≡ c → (99 ≡ c → ⊥) → (100 ≡ c → ⊥) → (108 ≡ c → ⊥) → (103 ≡ c → ⊥) → ⊥
+    begins_apart c (inl is) begins check dump load get = check (ap (λ (word : Text). slice_index_or word 0 0) (sym is) ∙ begins)
+    begins_apart c (inr (inl is)) begins check dump load get = dump (ap (λ (word : Text). slice_index_or word 0 0) (sym is) ∙ begins)
+    begins_apart c (inr (inr (inl is))) begins check dump load get = load (ap (λ (word : Text). slice_index_or word 0 0) (sym is) ∙ begins)
+    begins_apart c (inr (inr (inr is))) begins check dump load get = get (ap (λ (word : Text). slice_index_or word 0 0) (sym is) ∙ begins)
 
 -- there is no other command
-pub is_command : (asked : Asked) (command : Text) (own : ArgMatches) → IsOwn command own asked → (command ≡ codes "serve" → ⊥) → (command ≡ codes "check" → ⊥) → (command ≡ codes "dump" → ⊥) → (command ≡ codes "load" → ⊥) → (command ≡ codes "storm" → ⊥) → (command ≡ codes "get" → ⊥) → (command ≡ codes "put" → ⊥) → (command ≡ codes "del" → ⊥) → (command ≡ codes "swap" → ⊥) → (command ≡ codes "pairs" → ⊥) → (command ≡ codes "convert" → ⊥) → ⊥
-is_command (Serve opening saving) command own is no_serve no_check no_dump no_load no_storm no_get no_put no_del no_swap no_pairs no_convert = no_serve is.command_is
-is_command (Check path) command own is no_serve no_check no_dump no_load no_storm no_get no_put no_del no_swap no_pairs no_convert = no_check is.command_is
-is_command (Dump path) command own is no_serve no_check no_dump no_load no_storm no_get no_put no_del no_swap no_pairs no_convert = no_dump is.command_is
-is_command (Load path long into) command own is no_serve no_check no_dump no_load no_storm no_get no_put no_del no_swap no_pairs no_convert = no_load is.command_is
-is_command (Storm texts) command own is no_serve no_check no_dump no_load no_storm no_get no_put no_del no_swap no_pairs no_convert = no_storm is.command_is
-is_command (Get path word) command own is no_serve no_check no_dump no_load no_storm no_get no_put no_del no_swap no_pairs no_convert = no_get is.command_is
-is_command (Put path key value) command own is no_serve no_check no_dump no_load no_storm no_get no_put no_del no_swap no_pairs no_convert = no_put is.command_is
-is_command (Del path key) command own is no_serve no_check no_dump no_load no_storm no_get no_put no_del no_swap no_pairs no_convert = no_del is.command_is
-is_command (Swap path key old new) command own is no_serve no_check no_dump no_load no_storm no_get no_put no_del no_swap no_pairs no_convert = no_swap is.command_is
-is_command (Pairs path texts) command own is no_serve no_check no_dump no_load no_storm no_get no_put no_del no_swap no_pairs no_convert = no_pairs is.command_is
-is_command (Convert path new version) command own is no_serve no_check no_dump no_load no_storm no_get no_put no_del no_swap no_pairs no_convert = no_convert is.command_is
+pub is_command : (asked : Asked) (command : Text) (own : ArgMatches) → IsOwn command own asked → (command ≡ codes "serve" → ⊥) → (command ≡ codes "check" → ⊥) → (command ≡ codes "dump" → ⊥) → (command ≡ codes "load" → ⊥) → (command ≡ codes "storm" → ⊥) → (command ≡ codes "get" → ⊥) → (command ≡ codes "put" → ⊥) → (command ≡ codes "del" → ⊥) → (command ≡ codes "swap" → ⊥) → (command ≡ codes "pairs" → ⊥) → (command ≡ codes "convert" → ⊥) → (command ≡ codes "create" → ⊥) → (command ≡ codes "backup" → ⊥) → (command ≡ codes "version" → ⊥) → (command ≡ codes "manual" → ⊥) → ⊥
+is_command (Serve opening saving) command own is no_serve no_check no_dump no_load no_storm no_get no_put no_del no_swap no_pairs no_convert no_create no_backup no_version no_manual = no_serve is.command_is
+is_command (Check path) command own is no_serve no_check no_dump no_load no_storm no_get no_put no_del no_swap no_pairs no_convert no_create no_backup no_version no_manual = no_check is.command_is
+is_command (Dump path) command own is no_serve no_check no_dump no_load no_storm no_get no_put no_del no_swap no_pairs no_convert no_create no_backup no_version no_manual = no_dump is.command_is
+is_command (Load path long into) command own is no_serve no_check no_dump no_load no_storm no_get no_put no_del no_swap no_pairs no_convert no_create no_backup no_version no_manual = no_load is.command_is
+is_command (Storm texts) command own is no_serve no_check no_dump no_load no_storm no_get no_put no_del no_swap no_pairs no_convert no_create no_backup no_version no_manual = no_storm is.command_is
+is_command (Get path word) command own is no_serve no_check no_dump no_load no_storm no_get no_put no_del no_swap no_pairs no_convert no_create no_backup no_version no_manual = no_get is.command_is
+is_command (Put path key value) command own is no_serve no_check no_dump no_load no_storm no_get no_put no_del no_swap no_pairs no_convert no_create no_backup no_version no_manual = no_put is.command_is
+is_command (Del path key) command own is no_serve no_check no_dump no_load no_storm no_get no_put no_del no_swap no_pairs no_convert no_create no_backup no_version no_manual = no_del is.command_is
+is_command (Swap path key old new) command own is no_serve no_check no_dump no_load no_storm no_get no_put no_del no_swap no_pairs no_convert no_create no_backup no_version no_manual = no_swap is.command_is
+is_command (Convert path new version) command own is no_serve no_check no_dump no_load no_storm no_get no_put no_del no_swap no_pairs no_convert no_create no_backup no_version no_manual = no_convert is.command_is
+is_command (Pairs path texts) command own is no_serve no_check no_dump no_load no_storm no_get no_put no_del no_swap no_pairs no_convert no_create no_backup no_version no_manual = no_pairs is.command_is
+is_command (Create path texts) command own is no_serve no_check no_dump no_load no_storm no_get no_put no_del no_swap no_pairs no_convert no_create no_backup no_version no_manual = no_create is.command_is
+is_command (Backup path new) command own is no_serve no_check no_dump no_load no_storm no_get no_put no_del no_swap no_pairs no_convert no_create no_backup no_version no_manual = no_backup is.command_is
+is_command Version command own is no_serve no_check no_dump no_load no_storm no_get no_put no_del no_swap no_pairs no_convert no_create no_backup no_version no_manual = no_version is.command_is
+is_command (Manual word) command own is no_serve no_check no_dump no_load no_storm no_get no_put no_del no_swap no_pairs no_convert no_create no_backup no_version no_manual = no_manual is.command_is
 
 -- ---- the job of a command
 

@@ -1,18 +1,21 @@
 -- The job that a command line names.
-use Rattle.std.specs.Prelude.{◌≡◌, ◌≤◌, ◌==◌, ⊤, ℕ, Bool, true, false, ◌&&◌, leb, List, [], ◌∷◌, Option, Some, None, IfSome, is_some, option_map, option_and_then, unwrap_or, codes, if◌then◌else◌}
+use Rattle.std.specs.Prelude.{◌≡◌, ◌≤◌, ◌==◌, ⊤, ℕ, Bool, true, false, ◌&&◌, ◌||◌, leb, List, [], ◌∷◌, Option, Some, None, IfSome, is_some, option_map, option_and_then, unwrap_or, codes, if◌then◌else◌}
 use Rattle.std.specs.Str.{bytes_eq}
 use Rattle.exh_page.specs.declared.page.TheConstants.{CAP_LIMIT}
 use Rattle.exh_prefix.specs.declared.prefix.TheConstants.{WARD_BITS_LIMIT}
 use Rattle.exh_keyer.specs.declared.any_keyer.AnyKeyer.{AnyKeyer}
+use Rattle.exh_keyer.specs.declared.any_keyer.AnyKeyer.TheVariants.{Sha}
 use Rattle.exh_settings.specs.Keyers.{keyer_named}
 use Rattle.exh_calls.specs.declared.call.Call.{Call}
 use Rattle.exh_calls.specs.declared.call.Call.TheVariants as calls
 use Rattle.exh_text.specs.ByteWord.{bytes_of_word, key_in_range, value_in_range}
 use Rattle.exh_text.specs.Numbers.{number_spelled}
+use Rattle.exh_settings.specs.FileSettings.{AreInRange}
 use Rattle.exh_settings.specs.StormConfig.{IsStormConfig}
+use Rattle.exh_settings.specs.declared.file_settings.FileSettings.{FileSettings}
 use Rattle.exh_settings.specs.declared.storm_config.StormConfig.{StormConfig}
 use Rattle.exh_settings.specs.declared.storm_config.TheConstants.{CALLERS_LIMIT, CALLS_LIMIT, COPIES_LIMIT}
-use Rattle.exh_command.specs.Words.{Use, flags_and_path, new_path_name, path_and_key, path_and_three, path_and_two, path_name, path_named, uses_and_path, uses_and_two_paths, uses_named, option_given}
+use Rattle.exh_command.specs.Words.{Use, flags_and_path, new_path_name, path_and_key, path_and_three, path_and_two, path_name, path_named, uses_and_path, uses_and_two_paths, uses_named, option_given, word_perhaps}
 use Rattle.exh_command.specs.declared.job.Job.{Job}
 use Rattle.exh_command.specs.declared.load_way.LoadWay.{LoadWay}
 use Rattle.exh_command.specs.declared.load_way.LoadWay.TheVariants.{Short, Long, Into}
@@ -28,7 +31,7 @@ pub record StormTexts : Type 0 where
   pub wards : Option (List ℕ)
   pub copies : Option (List ℕ)
 
--- the texts of the settings of a text of pairs, where they were given
+-- the texts of the settings of a text of pairs, or of a new file, where they were given
 pub record PairsTexts : Type 0 where
   pub cap : Option (List ℕ)
   pub wards : Option (List ℕ)
@@ -53,6 +56,13 @@ pub data Asked : Type 0 where
   Pairs : List ℕ → PairsTexts → Asked
   -- the file, the new one, and the number of its version
   Convert : List ℕ → List ℕ → Option (List ℕ) → Asked
+  -- the new file, and its settings
+  Create : List ℕ → PairsTexts → Asked
+  -- the file, and the new one
+  Backup : List ℕ → List ℕ → Asked
+  Version : Asked
+  -- the command that the manual is to tell of
+  Manual : Option (List ℕ) → Asked
 
 -- a job, with the texts of its paths, its numbers and the bytes of its key
 pub data Named : Type 0 where
@@ -66,6 +76,10 @@ pub data Named : Type 0 where
   -- the cap, the ward bits and the keyer that were given
   Pairing : List ℕ → Option ℕ → Option ℕ → Option AnyKeyer → Named
   Converting : List ℕ → List ℕ → PageFileVersion → Named
+  Creating : List ℕ → FileSettings AnyKeyer → Named
+  Copying : List ℕ → List ℕ → Named
+  TellingVersion : Named
+  TellingManual : Option (List ℕ) → Named
 
 abbrev pub named_of : Job → Named
 named_of (jobs.Serve opened saved) = Serving (option_map (λ path. path.now) opened) (option_map (λ path. path.now) saved)
@@ -77,8 +91,12 @@ named_of (jobs.Get path key) = Getting path.now key
 named_of (jobs.Change path call) = Changing path.now call
 named_of (jobs.Pairs path cap ward_bits keyer) = Pairing path.now cap ward_bits keyer
 named_of (jobs.Convert path new version) = Converting path.now new.now version
+named_of (jobs.Create path settings) = Creating path.now settings
+named_of (jobs.Backup path new) = Copying path.now new.now
+named_of jobs.Version = TellingVersion
+named_of (jobs.Manual command) = TellingManual (option_map (λ word. word.now) command)
 
--- the numbers of a storm, and those of a text of pairs, are within the limits
+-- the numbers of a storm, those of a text of pairs and those of a new file are within the limits
 abbrev pub IsWithinLimits : Job → Type 0
 IsWithinLimits (jobs.Serve opened saved) = ⊤
 IsWithinLimits (jobs.Check path) = ⊤
@@ -89,6 +107,10 @@ IsWithinLimits (jobs.Get path key) = ⊤
 IsWithinLimits (jobs.Change path call) = ⊤
 IsWithinLimits (jobs.Pairs path cap ward_bits keyer) = IfSome cap (λ cap. (1 ≤ cap) × (cap ≤ CAP_LIMIT)) × IfSome ward_bits (λ bits. bits ≤ WARD_BITS_LIMIT)
 IsWithinLimits (jobs.Convert path new version) = ⊤
+IsWithinLimits (jobs.Create path settings) = AreInRange settings
+IsWithinLimits (jobs.Backup path new) = ⊤
+IsWithinLimits jobs.Version = ⊤
+IsWithinLimits (jobs.Manual command) = ⊤
 
 -- ---- the words behind a command
 
@@ -211,6 +233,35 @@ converted_by uses = Convert (unwrap_or (option_given path_name uses) []) (unwrap
 abbrev pub convert_asked : List (List ℕ) → Option Asked
 convert_asked words = option_map converted_by (uses_and_two_paths convert_names words)
 
+-- `create` takes a path, and the options of `pairs`
+abbrev pub created_by : List Use → Asked
+created_by uses = Create (unwrap_or (option_given path_name uses) []) (record {
+  cap = option_given cap_name uses;
+  wards = option_given wards_name uses;
+  keyer = option_given keyer_name uses;
+})
+
+abbrev pub create_asked : List (List ℕ) → Option Asked
+create_asked words = option_map created_by (uses_and_path pairs_names words)
+
+-- `backup` takes a path and a new one
+abbrev pub backed_by : List Use → Asked
+backed_by uses = Backup (unwrap_or (option_given path_name uses) []) (unwrap_or (option_given new_path_name uses) [])
+
+abbrev pub backup_asked : List (List ℕ) → Option Asked
+backup_asked words = option_map backed_by (uses_and_two_paths [] words)
+
+-- `version` takes nothing
+abbrev pub versioned_by : List Use → Asked
+versioned_by uses = Version
+
+abbrev pub version_asked : List (List ℕ) → Option Asked
+version_asked words = option_map versioned_by (uses_named [] words)
+
+-- `manual` takes a word, or none
+abbrev pub manual_asked : List (List ℕ) → Option Asked
+manual_asked words = option_map Manual (word_perhaps words)
+
 -- ---- a whole command line
 
 -- the program's name, a command, and the command's own words
@@ -228,7 +279,11 @@ asked_by (program ∷ command ∷ rest) =
     else (if bytes_eq (codes "del") command then del_asked rest
     else (if bytes_eq (codes "swap") command then swap_asked rest
     else (if bytes_eq (codes "pairs") command then pairs_asked rest
-    else (if bytes_eq (codes "convert") command then convert_asked rest else None))))))))))
+    else (if bytes_eq (codes "convert") command then convert_asked rest
+    else (if bytes_eq (codes "create") command then create_asked rest
+    else (if bytes_eq (codes "backup") command then backup_asked rest
+    else (if bytes_eq (codes "version") command then version_asked rest
+    else (if bytes_eq (codes "manual") command then manual_asked rest else None))))))))))))))
 
 -- ---- the numbers of a storm
 
@@ -274,6 +329,35 @@ pairing_of path texts =
     (number_given 0 WARD_BITS_LIMIT texts.wards))
     (number_given 1 CAP_LIMIT texts.cap)
 
+-- ---- the settings of a new file
+
+-- the keyer that a text names, or the usual one, where there is no text
+abbrev pub keyer_of : Option (List ℕ) → Option AnyKeyer
+keyer_of None = Some Sha
+keyer_of (Some word) = keyer_named word
+
+abbrev pub creation_of : PairsTexts → Option (FileSettings AnyKeyer)
+creation_of texts =
+    option_and_then (λ cap.
+    option_and_then (λ bits.
+    option_and_then (λ keyer. Some (record { cap = cap; ward_bits = bits; keyer = keyer }))
+    (keyer_of texts.keyer))
+    (number_of 0 0 WARD_BITS_LIMIT texts.wards))
+    (number_of 16 1 CAP_LIMIT texts.cap)
+
+-- ---- the commands of which the manual tells
+
+abbrev pub is_command_name : List ℕ → Bool
+is_command_name word =
+    bytes_eq word (codes "serve") || bytes_eq word (codes "check") || bytes_eq word (codes "dump") || bytes_eq word (codes "load")
+    || bytes_eq word (codes "storm") || bytes_eq word (codes "get") || bytes_eq word (codes "put") || bytes_eq word (codes "del")
+    || bytes_eq word (codes "swap") || bytes_eq word (codes "pairs") || bytes_eq word (codes "convert") || bytes_eq word (codes "create")
+    || bytes_eq word (codes "backup") || bytes_eq word (codes "version") || bytes_eq word (codes "manual")
+
+abbrev pub manual_of : Option (List ℕ) → Option Named
+manual_of None = Some (TellingManual None)
+manual_of (Some word) = if is_command_name word then Some (TellingManual (Some word)) else None
+
 -- ---- the version of a new page file
 
 abbrev pub version_numbered : ℕ → Option PageFileVersion
@@ -315,7 +399,7 @@ del_spelled key = option_map calls.Del (key_spelled key)
 abbrev pub swap_spelled : List ℕ → List ℕ → List ℕ → Option Call
 swap_spelled key old new = option_and_then (λ k. option_and_then (λ o. option_map (calls.Swap k o) (value_spelled new)) (value_spelled old)) (key_spelled key)
 
--- the job that a command comes to: of a load where its flags say a way, of a storm and of pairs where all their numbers and keyers are some, of a conversion where its version is one, of a command about a key where its words spell a key and values
+-- the job that a command comes to: of a load where its flags say a way, of a storm, of pairs and of a new file where all their numbers and keyers are some, of a conversion where its version is one, of a command about a key where its words spell a key and values, of the manual where its word is a command
 abbrev pub job_asked : Asked → Option Named
 job_asked (Serve opened saved) = Some (Serving opened saved)
 job_asked (Check path) = Some (Checking path)
@@ -328,6 +412,10 @@ job_asked (Del path key) = option_map (Changing path) (del_spelled key)
 job_asked (Swap path key old new) = option_map (Changing path) (swap_spelled key old new)
 job_asked (Pairs path texts) = pairing_of path texts
 job_asked (Convert path new version) = option_map (Converting path new) (version_of version)
+job_asked (Create path texts) = option_map (Creating path) (creation_of texts)
+job_asked (Backup path new) = Some (Copying path new)
+job_asked Version = Some TellingVersion
+job_asked (Manual command) = manual_of command
 
 -- the job that the words of a command line name
 abbrev pub job_named : List (List ℕ) → Option Named
@@ -350,3 +438,7 @@ command_of (Del path key) = codes "del"
 command_of (Swap path key old new) = codes "swap"
 command_of (Pairs path texts) = codes "pairs"
 command_of (Convert path new version) = codes "convert"
+command_of (Create path texts) = codes "create"
+command_of (Backup path new) = codes "backup"
+command_of Version = codes "version"
+command_of (Manual command) = codes "manual"

@@ -1,5 +1,5 @@
 -- What the parser of the command line does with words.
-use Rattle.std.specs.Prelude.{◌≡◌, ◌↔◌, ℕ, Bool, List, [], ◌∷◌, map, Some, IsSome, codes, true, false}
+use Rattle.std.specs.Prelude.{◌≡◌, ◌↔◌, ⊤, ℕ, Bool, List, [], ◌∷◌, map, Some, IsSome, codes, true, false}
 use Rattle.clap.specs.Words.{App, Row, Rule, Shape, fault_of, first_of, first_value, one_of, one_text, is_simple_and_free, new_rule, subcommand_of, subcommand_rows_of}
 use Rattle.clap.specs.Simple.{new_shape}
 use Rattle.clap.specs.declared.builder.action.ArgAction.TheVariants.{SetTrue}
@@ -8,7 +8,7 @@ use Rattle.clap.specs.declared.builder.command.Command.TheViews.{out-Command}
 use Rattle.clap.specs.declared.parser.matches.ArgMatches.{ArgMatches}
 use Rattle.clap.specs.declared.parser.matches.Found.{Found}
 use Rattle.clap.specs.declared.error.kind.ErrorKind.TheVariants.{DisplayVersion}
-use Rattle.exh_command.specs.Job.{Asked, Check, Convert, Del, Dump, Get, Load, Pairs, PairsTexts, Put, Serve, Storm, StormTexts, Swap, asked_by, callers_name, calls_name, cap_name, command_of, copies_name, into_name, keyer_name, long_name, open_name, save_name, version_name, wards_name}
+use Rattle.exh_command.specs.Job.{Asked, Backup, Check, Convert, Create, Del, Dump, Get, Load, Manual, Pairs, PairsTexts, Put, Serve, Storm, StormTexts, Swap, Version, asked_by, callers_name, calls_name, cap_name, command_of, copies_name, into_name, keyer_name, long_name, open_name, save_name, version_name, wards_name}
 use Rattle.exh_command.specs.Words.{flag_set}
 
 -- ---- arguments
@@ -36,6 +36,10 @@ old_id = codes "OLD"
 
 abbrev pub new_id : List ℕ
 new_id = codes "NEW"
+
+-- the word by which the command is called of which the manual tells
+abbrev pub command_id : List ℕ
+command_id = codes "COMMAND"
 
 -- a word that has to be there
 abbrev pub word_rule : List ℕ → Rule
@@ -89,6 +93,10 @@ about_path_flagged name flags = record (new_shape name) { rules = path_rule ∷ 
 abbrev pub about_two_paths_with : List ℕ → List (List ℕ) → Shape
 about_two_paths_with name options = record (new_shape name) { rules = path_rule ∷ word_rule new_id ∷ map option_rule options }
 
+-- a command about a word that need not be there
+abbrev pub about_word_perhaps : List ℕ → List ℕ → Shape
+about_word_perhaps name word = record (new_shape name) { rules = new_rule word ∷ [] }
+
 -- a command without subcommands
 abbrev pub only : Shape → App
 only command = record { top = command; subs = [] }
@@ -107,7 +115,7 @@ pub record HasTexts (texts : StormTexts) (rows : List Row) : Type 0 where
   pub wards : first_of wards_name rows ≡ texts.wards
   pub copies : first_of copies_name rows ≡ texts.copies
 
--- what was met of pairs gives these texts
+-- what was met of pairs, or of a new file, gives these texts
 pub record HasPairsTexts (texts : PairsTexts) (rows : List Row) : Type 0 where
   pub cap : first_of cap_name rows ≡ texts.cap
   pub wards : first_of wards_name rows ≡ texts.wards
@@ -131,6 +139,10 @@ HasValues (Del path key) rows = (first_of path_id rows ≡ Some path) × (first_
 HasValues (Swap path key old new) rows = (first_of path_id rows ≡ Some path) × (first_of key_id rows ≡ Some key) × (first_of old_id rows ≡ Some old) × (first_of new_id rows ≡ Some new)
 HasValues (Pairs path texts) rows = (first_of path_id rows ≡ Some path) × HasPairsTexts texts rows
 HasValues (Convert path new version) rows = (first_of path_id rows ≡ Some path) × (first_of new_id rows ≡ Some new) × (first_of version_name rows ≡ version)
+HasValues (Create path texts) rows = (first_of path_id rows ≡ Some path) × HasPairsTexts texts rows
+HasValues (Backup path new) rows = (first_of path_id rows ≡ Some path) × (first_of new_id rows ≡ Some new)
+HasValues Version rows = ⊤
+HasValues (Manual command) rows = first_of command_id rows ≡ command
 
 -- the parser meets a command, and its values
 pub record Meets (parser : App) (words : List (List ℕ)) (asked : Asked) : Type 0 where
@@ -171,6 +183,6 @@ texts_of found = record {
   copies = first_value found copies_name;
 }
 
--- and for the settings of a text of pairs
+-- and for the settings of a text of pairs, or of a new file
 abbrev pub pairs_texts_of : Found → PairsTexts
 pairs_texts_of found = record { cap = first_value found cap_name; wards = first_value found wards_name; keyer = first_value found keyer_name }

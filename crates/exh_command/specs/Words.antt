@@ -34,6 +34,21 @@ path_named (word ∷ rest) =
     if ends_options word then only_word rest
     else (if is_option word then None else alone word rest)
 
+-- ---- perhaps a word
+
+-- behind `--` there is a word, or nothing
+abbrev pub word_or_none : List (List ℕ) → Option (Option (List ℕ))
+word_or_none [] = Some None
+word_or_none (word ∷ []) = Some (Some word)
+word_or_none (word ∷ next ∷ rest) = None
+
+-- the one word, which is told as a path would be, or none
+abbrev pub word_perhaps : List (List ℕ) → Option (Option (List ℕ))
+word_perhaps [] = Some None
+word_perhaps (word ∷ rest) =
+    if ends_options word then word_or_none rest
+    else (if is_option word then None else option_map (λ word. Some word) (alone word rest))
+
 -- ---- a path and a key
 
 -- behind `--` there are just two words

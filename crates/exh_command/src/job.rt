@@ -2,24 +2,27 @@
 ghost use Rattle.std.specs.Prelude.{◌≡◌, ◌<◌, ◌≤◌, ◌^◌, ℕ, Bool, List, Some, None, map, option_and_then, option_map, IfOk, IfErr, IfSome, IsSome};
 ghost use Rattle.clap.specs.Words.{first_value, found_of, one_text};
 ghost use Rattle.exh_command.specs.CommandFault.{IsWrong, TellsVersion};
-ghost use Rattle.exh_command.specs.Job.{AskForVersion, Asked, Convert, Del, Get, IsWithinLimits, Load, Pairs, Put, Storm, Swap, del_spelled, job_asked, job_named, key_spelled, keyer_given, keyer_name, named_of, number_given, number_of, pairing_of, put_spelled, storm_of, swap_spelled, value_spelled, version_name, version_of, way_of};
-ghost use Rattle.exh_command.specs.Parser.{HasFlags, IsJobMet, IsSomeJobMet, flag_text, key_id, new_id, old_id, pairs_texts_of, path_id, texts_of, value_id};
+ghost use Rattle.exh_command.specs.Job.{AskForVersion, Asked, Convert, Create, Del, Get, IsWithinLimits, Load, Manual, Pairs, Put, Storm, Swap, creation_of, del_spelled, is_command_name, job_asked, job_named, key_spelled, keyer_given, keyer_name, keyer_of, named_of, number_given, number_of, pairing_of, put_spelled, storm_of, swap_spelled, value_spelled, version_name, version_of, way_of};
+ghost use Rattle.exh_command.specs.Parser.{HasFlags, IsJobMet, IsSomeJobMet, command_id, flag_text, key_id, new_id, old_id, pairs_texts_of, path_id, texts_of, value_id};
+ghost use Rattle.exh_settings.specs.FileSettings.{AreInRange};
 ghost use Rattle.exh_settings.specs.StormConfig.{IsStormConfig};
 
 use crate::fault::CliFault;
 use crate::load_way::LoadWay;
 use crate::page_file_version::PageFileVersion;
 use crate::parser::{
-    CALLERS, CALLS, CAP, CHECK, CONVERT, COPIES, DEL, DUMP, GET, INTO, KEY, KEYER, LOAD, LONG, NEW,
-    OLD, OPEN, PAIRS, PATH, PUT, SAVE, SERVE, STORM, SWAP, VALUE, VERSION, WARDS, parser,
-    wrong_flags, wrong_value,
+    BACKUP, CALLERS, CALLS, CAP, CHECK, COMMAND, CONVERT, COPIES, CREATE, DEL, DUMP, GET, INTO,
+    KEY, KEYER, LOAD, LONG, MANUAL, NEW, OLD, OPEN, PAIRS, PATH, PUT, SAVE, SERVE, STORM, SWAP,
+    VALUE, VERSION, WARDS, parser, wrong_flags, wrong_value,
 };
 use clap::ArgMatches;
 use exh_calls::Call;
 use exh_keyer::AnyKeyer;
 use exh_page::{CAP_LIMIT, Key, Value};
 use exh_prefix::WARD_BITS_LIMIT;
-use exh_settings::{CALLERS_LIMIT, CALLS_LIMIT, COPIES_LIMIT, StormConfig, keyer_named};
+use exh_settings::{
+    CALLERS_LIMIT, CALLS_LIMIT, COPIES_LIMIT, FileSettings, StormConfig, keyer_named,
+};
 use exh_text::{ByteWord, parse_key, parse_u32};
 use std::alloc::Global;
 use std::convert::AsStr;
@@ -73,6 +76,22 @@ pub enum Job<'w> {
         new: &'w str,
         version: PageFileVersion,
     },
+    /// Make a page file of version 3 of these settings, without pairs, at a path.
+    Create {
+        path: &'w str,
+        settings: FileSettings<AnyKeyer>,
+    },
+    /// Copy one state of the page file of a path to a new path.
+    Backup {
+        path: &'w str,
+        new: &'w str,
+    },
+    /// Tell the program's version.
+    Version,
+    /// Tell what help says of the program, or of this command.
+    Manual {
+        command: Option<&'w str>,
+    },
 }
 
 /// The job that the words of a command line name, of which the first is the program's name.
@@ -81,7 +100,7 @@ pub enum Job<'w> {
 ///
 /// `CliFault::Wrong` only where the words name no job, as in a call for help, or for the version,
 /// which its text then tells; a number that is none, or out of range, a key or value that is none, a version that
-/// `convert` doesn't write, and both flags of `load` are such words too.
+/// `convert` doesn't write, a command that there isn't to tell of, and both flags of `load` are such words too.
 /// `CliFault::Memory` may come at any words.
 pub fn job_of<'w, S: AsStr>(alloc: Global, words: &'w [S]) -> Result<Job<'w>, CliFault>
     ensures named { IfOk result (λ job. job_named (map S.text words.now) ≡ Some (named_of job)) }
@@ -120,6 +139,13 @@ fn job_met<'w>(alloc: Global, matches: &ArgMatches<'w>) -> Result<Job<'w>, CliFa
         SWAP => swap_job(alloc, own),
         PAIRS => pairs_job(alloc, own),
         CONVERT => convert_job(alloc, own),
+        CREATE => create_job(alloc, own),
+        BACKUP => Ok(Job::Backup {
+            path: path_in(own),
+            new: new_path_in(own),
+        }),
+        VERSION => Ok(Job::Version),
+        MANUAL => manual_job(alloc, own),
         _ => unreachable!(),
     }
 }
@@ -410,7 +436,7 @@ fn convert_job<'w>(alloc: Global, own: &ArgMatches<'w>) -> Result<Job<'w>, CliFa
     }
 }
 
-// The new path that `convert` was given.
+// The new path that `convert` or `backup` was given.
 fn new_path_in<'w>(own: &ArgMatches<'w>) -> &'w str
     requires { IsSome (first_value (found_of own.now) new_id) }
     ensures { Some result.now ≡ first_value (found_of own.now) new_id }
@@ -429,6 +455,97 @@ fn version_in(own: &ArgMatches<'_>) -> Option<PageFileVersion>
         return Some(PageFileVersion::Third);
     };
     PageFileVersion::numbered(parse_u32(word.as_bytes())?)
+}
+
+// The new file of the path, with the settings that were given.
+fn create_job<'w>(alloc: Global, own: &ArgMatches<'w>) -> Result<Job<'w>, CliFault>
+    requires path { IsSome (first_value (found_of own.now) path_id) }
+    ensures named { IfOk result (λ job. (path : List ℕ) → Some path ≡ first_value (found_of own.now) path_id → job_asked (Create path (pairs_texts_of (found_of own.now))) ≡ Some (named_of job)) }
+    ensures limits { IfOk result IsWithinLimits }
+    ensures wrong { IfErr result (λ fault. IsWrong fault → (path : List ℕ) → job_asked (Create path (pairs_texts_of (found_of own.now))) ≡ None) }
+{
+    match settings_in(own) {
+        Some(settings) => Ok(Job::Create {
+            path: path_in(own),
+            settings,
+        }),
+        None => Err(CliFault::Wrong(wrong_value(alloc, wrong_new_setting(own))?)),
+    }
+}
+
+// The settings that a new file was given, and the usual ones for the others.
+fn settings_in(own: &ArgMatches<'_>) -> Option<FileSettings<AnyKeyer>>
+    ensures settings { result ≡ creation_of (pairs_texts_of (found_of own.now)) }
+    ensures limits { IfSome result AreInRange }
+{
+    Some(FileSettings {
+        cap: number_in(own, CAP, 16, 1, CAP_LIMIT as u32)? as u8,
+        ward_bits: number_in(own, WARDS, 0, 0, u32::from(WARD_BITS_LIMIT))? as u8,
+        keyer: keyer_in(own)?,
+    })
+}
+
+// What the first setting of `create` that is none must be.
+fn wrong_new_setting(own: &ArgMatches<'_>) -> &'static str {
+    if number_in(own, CAP, 16, 1, CAP_LIMIT as u32).is_none() {
+        return "`create --cap` takes a number from 1 to 16";
+    }
+    if number_in(own, WARDS, 0, 0, u32::from(WARD_BITS_LIMIT)).is_none() {
+        return "`create --wards` takes a number from 0 to 4";
+    }
+    "`create --keyer` takes `sha` or `plain`"
+}
+
+// The keyer that was given, or `sha`, where none was.
+fn keyer_in(own: &ArgMatches<'_>) -> Option<AnyKeyer>
+    ensures { result ≡ keyer_of (first_value (found_of own.now) keyer_name) }
+{
+    let Some(word) = own.get_str(KEYER) else {
+        return Some(AnyKeyer::Sha);
+    };
+    keyer_named(word.as_bytes())
+}
+
+// The manual of the program, or of the command that was given.
+fn manual_job<'w>(alloc: Global, own: &ArgMatches<'w>) -> Result<Job<'w>, CliFault>
+    ensures named { IfOk result (λ job. job_asked (Manual (first_value (found_of own.now) command_id)) ≡ Some (named_of job)) }
+    ensures limits { IfOk result IsWithinLimits }
+    ensures wrong { IfErr result (λ fault. IsWrong fault → job_asked (Manual (first_value (found_of own.now) command_id)) ≡ None) }
+{
+    match own.get_str(COMMAND) {
+        None => Ok(Job::Manual { command: None }),
+        Some(word) if is_command(word) => Ok(Job::Manual {
+            command: Some(word),
+        }),
+        Some(_) => Err(CliFault::Wrong(wrong_value(
+            alloc,
+            "`manual` takes a command of `exhash`, as `exhash --help` lists them",
+        )?)),
+    }
+}
+
+// Whether a word is a command of the program.
+fn is_command(word: &str) -> bool
+    ensures { result ≡ is_command_name word.now }
+{
+    match word {
+        SERVE
+        | CHECK
+        | DUMP
+        | LOAD
+        | STORM
+        | GET
+        | PUT
+        | DEL
+        | SWAP
+        | PAIRS
+        | CONVERT
+        | CREATE
+        | BACKUP
+        | VERSION
+        | MANUAL => true,
+        _ => false,
+    }
 }
 
 // The storm of the settings that were given.

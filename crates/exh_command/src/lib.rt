@@ -5,7 +5,7 @@ pub use fault::CliFault;
 pub use job::{Job, job_of};
 pub use load_way::LoadWay;
 pub use page_file_version::PageFileVersion;
-pub use parser::not_text;
+pub use parser::{PROGRAM_VERSION, manual_text, not_text};
 
 mod fault;
 mod job;

@@ -1,9 +1,9 @@
 //! The parser of the command line, with the texts that a stranger reads.
-ghost use Rattle.std.specs.Prelude.{◌≡◌, IfOk, codes, false};
-ghost use Rattle.clap.specs.Words.{Shape, app_of, kind_of, new_app, rule_of, with_subcommand};
+ghost use Rattle.std.specs.Prelude.{◌≡◌, [], IfOk, codes, false};
+ghost use Rattle.clap.specs.Words.{Shape, app_of, kind_of, new_app, new_rule, rule_of, with_subcommand};
 ghost use Rattle.exh_command.specs.Job.{convert_names, load_flags, pairs_names, serve_names, storm_names};
 ghost use Rattle.exh_command.specs.Program.{bare_program};
-ghost use Rattle.exh_command.specs.Parser.{HasOwnArgs, ReadsJobs, about_key, about_path, about_path_flagged, about_path_with, about_two_paths_with, about_two_values, about_value, flag_rule, key_rule, only, option_rule, path_rule, with_options, word_rule};
+ghost use Rattle.exh_command.specs.Parser.{HasOwnArgs, ReadsJobs, about_key, about_path, about_path_flagged, about_path_with, about_two_paths_with, about_two_values, about_value, about_word_perhaps, command_id, flag_rule, key_rule, only, option_rule, path_rule, with_options, word_rule};
 
 use clap::error::{Error, ErrorKind};
 use clap::{Arg, ArgAction, Command};
@@ -42,6 +42,15 @@ pub(crate) const PAIRS: &str = "pairs";
 /// The command that writes a page file as one of a version that is named.
 pub(crate) const CONVERT: &str = "convert";
 
+/// The command that makes a page file without pairs.
+pub(crate) const CREATE: &str = "create";
+
+/// The command that copies a page file.
+pub(crate) const BACKUP: &str = "backup";
+
+/// The command that prints what help says.
+pub(crate) const MANUAL: &str = "manual";
+
 /// The flag of `load` of a text of any length.
 pub(crate) const LONG: &str = "long";
 
@@ -63,6 +72,9 @@ pub(crate) const OLD: &str = "OLD";
 /// What help calls the value that a key is given in its place, and the path of a new page file.
 pub(crate) const NEW: &str = "NEW";
 
+/// What help calls the command of which the manual tells.
+pub(crate) const COMMAND: &str = "COMMAND";
+
 /// The option of `serve` that names the page file to open.
 pub(crate) const OPEN: &str = "open";
 
@@ -75,26 +87,32 @@ pub(crate) const CALLERS: &str = "callers";
 /// The option of `storm` that tells how many calls each caller makes.
 pub(crate) const CALLS: &str = "calls";
 
-/// The option of `storm` and of `pairs` that tells how many records a page may have.
+/// The option of `storm`, `pairs` and `create` that tells how many records a page may have.
 pub(crate) const CAP: &str = "cap";
 
-/// The option of `storm` and of `pairs` that tells by how many bits the file is cut into wards.
+/// The option of `storm`, `pairs` and `create` that tells by how many bits the file is cut into wards.
 pub(crate) const WARDS: &str = "wards";
 
 /// The option of `storm` that tells how many copies of the directory there are.
 pub(crate) const COPIES: &str = "copies";
 
-/// The option of `pairs` that names a keyer.
+/// The option of `pairs` and of `create` that names a keyer.
 pub(crate) const KEYER: &str = "keyer";
 
-/// The option of `convert` that names the version of the new page file.
+/// The option of `convert` that names the version of the new page file, and the command that prints the program's.
 pub(crate) const VERSION: &str = "version";
 
 // What help calls a number.
 const NUMBER: &str = "N";
 
-// The program's own, which says nothing of the formats'.
-const PROGRAM_VERSION: &str = "0.1.0";
+// The name under which the program tells of itself.
+const PROGRAM: &str = "exhash";
+
+// The option that asks for help.
+const HELP: &str = "--help";
+
+/// The program's own, which says nothing of the formats'.
+pub const PROGRAM_VERSION: &str = "0.1.0";
 
 const USAGE: &str = "exhash serve [--open PATH] [--save PATH] < SCRIPT
        exhash check PATH
@@ -106,6 +124,10 @@ const USAGE: &str = "exhash serve [--open PATH] [--save PATH] < SCRIPT
        exhash swap PATH KEY OLD NEW
        exhash pairs PATH [--cap N] [--wards N] [--keyer K]
        exhash convert PATH NEW [--version N]
+       exhash create PATH [--cap N] [--wards N] [--keyer K]
+       exhash backup PATH NEW
+       exhash version
+       exhash manual [COMMAND]
        exhash storm [--callers N] [--calls N] [--cap N] [--wards N]
          [--copies N]
 
@@ -117,6 +139,8 @@ Examples:
   ./exhash get examples/three-pairs.files/three-pairs.exh @
   ./exhash put my-pairs.exh @ y
   ./exhash convert my-pairs.exh new-pairs.exh
+  ./exhash create people.exh
+  ./exhash backup people.exh people.copy
   ./exhash storm --callers 4 --calls 100";
 
 const SERVE_USAGE: &str = "exhash serve [--open PATH] [--save PATH] < SCRIPT
@@ -422,6 +446,73 @@ Exit status: 0 where NEW is written; 1 where it isn't, or PATH is refused; 2
 where the command line is wrong, or asks for help.
 The formats are in docs/FORMATS.md.";
 
+const CREATE_USAGE: &str = "exhash create PATH [--cap N] [--wards N] [--keyer K]
+
+A PATH that begins with a dash stands behind `--`, as in create -- -x.
+
+Examples:
+  exhash create people.exh
+  exhash create people.exh --cap 8 --wards 2 --keyer plain";
+
+const CREATED: &str = "\
+It makes a page file of version 3 without pairs, for `exhash put` and the other
+commands. The usual settings fit most files: full pages, one ward, and a keyer
+that spreads all keys evenly.
+At PATH there must be nothing or an empty file. What else is there stays as it
+is, and of several runs for one path at once one makes the file. Nothing is
+printed; why the file isn't made is said on standard error, and an empty file
+may be left then.
+
+Exit status: 0 where the file is made; 3 where something is there already; 1
+where it can't be made; 2 where the command line is wrong, or asks for help.
+The formats are in docs/FORMATS.md.";
+
+const BACKUP_USAGE: &str = "exhash backup PATH NEW
+
+Paths that begin with a dash stand behind `--`, as in backup -- -x -y.
+
+Example:
+  exhash backup people.exh people.copy";
+
+const COPIED: &str = "\
+It copies the page file of PATH, of any version, byte for byte to NEW: all of
+one state, also while others change the file, who wait meanwhile. A change that
+was cut off is recovered before. At NEW there must be nothing, not even an empty
+file: what is there stays as it is. NEW begins as a page file only once all of
+it is on the disk. Nothing is printed; why there is no copy is said on standard
+error.
+A copy by other programs, as by cp, is whole only where nothing changes PATH
+meanwhile and no change was cut off before. Whether PATH is legal isn't asked:
+`exhash check NEW` tells that of the copy.
+
+Exit status: 0 where NEW is written; 3 where something is there already; 1 where
+PATH isn't opened or no page file, or NEW isn't written; 2 where the command
+line is wrong, or asks for help.";
+
+const VERSION_USAGE: &str = "exhash version
+
+Example:
+  exhash version";
+
+const TOLD_VERSION: &str = "\
+It prints one line, as `exhash --version` does, but on standard output.
+
+Exit status: 0 where the line is printed; 1 where it isn't; 2 where the command
+line is wrong, or asks for help.";
+
+const MANUAL_USAGE: &str = "exhash manual [COMMAND]
+
+Examples:
+  exhash manual
+  exhash manual put";
+
+const TOLD_MANUAL: &str = "\
+It prints what `exhash --help` tells, or `exhash COMMAND --help`, but on
+standard output.
+
+Exit status: 0 where all of it is printed; 1 where it isn't; 2 where there is no
+such command, or the command line is wrong, or asks for help.";
+
 const STORM_USAGE: &str = "exhash storm [--callers N] [--calls N] [--cap N] [--wards N]
          [--copies N]
 
@@ -468,6 +559,7 @@ legal, or the key is there or changed as is asked, or the new file is written,
 or all is settled; 1 where it is refused or the run breaks off; 2 where the
 command line is wrong, or asks for help or for the version; 3 where a get finds
 no key, or a put, del or swap leaves the file as it is.
+create and backup end with 3 where something is there already.
 `exhash serve --help` has the lines of a script, `exhash check --help` what is
 said of a file, docs/FORMATS.md the formats.";
 
@@ -527,7 +619,11 @@ pub(crate) fn parser<'a>(alloc: Global) -> Result<Command<'a>, AllocError>
     );
     let swapping = with_command(deleting, swap)?;
     let pairing = with_command(swapping, pairs(alloc))?;
-    with_command(pairing, convert(alloc))
+    let converting = with_command(pairing, convert(alloc))?;
+    let creating = with_command(converting, create(alloc))?;
+    let copying = with_command(creating, backup(alloc))?;
+    let telling = with_command(copying, version(alloc))?;
+    with_command(telling, manual(alloc))
 }
 
 // A command with one more below it, if that was made. It takes both, so that where one isn't made its caller has nothing
@@ -546,14 +642,14 @@ fn with_command<'a>(
 fn bare_program<'a>(alloc: Global) -> Result<Command<'a>, AllocError>
     ensures { IfOk result (λ command. app_of command ≡ bare_program) }
 {
-    Command::new(alloc, "exhash")
+    Command::new(alloc, PROGRAM)
         .about("An extendible hash file whose directory is copied to several nodes")
         .version(PROGRAM_VERSION)
         .after_help(ENDS)
         .override_usage(USAGE)
         .subcommand_required(true)
         .arg_required_else_help(true)
-        .bin_name("exhash")
+        .bin_name(PROGRAM)
 }
 
 // The parser of `serve`.
@@ -690,6 +786,72 @@ fn convert<'a>(alloc: Global) -> Result<Command<'a>, AllocError>
     ))
 }
 
+// The parser of `create`.
+fn create<'a>(alloc: Global) -> Result<Command<'a>, AllocError>
+    ensures own { IfOk result HasOwnArgs }
+    ensures is { IfOk result (λ command. app_of command ≡ only (about_path_with (codes "create") pairs_names)) }
+{
+    path_command(
+        alloc,
+        CREATE,
+        "Makes a page file without pairs",
+        CREATE_USAGE,
+        CREATED,
+    )?
+    .arg(option(
+        alloc,
+        CAP,
+        NUMBER,
+        "How many records a page may have, 1 to 16 [default: 16]",
+    ))?
+    .arg(option(alloc, WARDS, NUMBER, "0 to 4, for 2^N wards [default: 0]"))?
+    .arg(option(alloc, KEYER, "K", "The keyer, sha or plain [default: sha]"))
+}
+
+// The parser of `backup`.
+fn backup<'a>(alloc: Global) -> Result<Command<'a>, AllocError>
+    ensures own { IfOk result HasOwnArgs }
+    ensures is { IfOk result (λ command. app_of command ≡ only (about_two_paths_with (codes "backup") [])) }
+{
+    path_command(
+        alloc,
+        BACKUP,
+        "Copies a page file, also while others change it",
+        BACKUP_USAGE,
+        COPIED,
+    )?
+    .arg(word(alloc, NEW))
+}
+
+// The parser of `version`.
+fn version<'a>(alloc: Global) -> Result<Command<'a>, AllocError>
+    ensures own { IfOk result HasOwnArgs }
+    ensures is { IfOk result (λ command. app_of command ≡ only (with_options (codes "version") [])) }
+{
+    Ok(bare_command(
+        alloc,
+        VERSION,
+        "Prints the program's version",
+        VERSION_USAGE,
+        TOLD_VERSION,
+    ))
+}
+
+// The parser of `manual`.
+fn manual<'a>(alloc: Global) -> Result<Command<'a>, AllocError>
+    ensures own { IfOk result HasOwnArgs }
+    ensures is { IfOk result (λ command. app_of command ≡ only (about_word_perhaps (codes "manual") command_id)) }
+{
+    bare_command(
+        alloc,
+        MANUAL,
+        "Prints what help tells of the program, or of a command",
+        MANUAL_USAGE,
+        TOLD_MANUAL,
+    )
+    .arg(word_perhaps(alloc, COMMAND))
+}
+
 // The parser of a command about the file of one path.
 fn path_command<'a>(
     alloc: Global,
@@ -789,6 +951,14 @@ fn word<'a>(alloc: Global, name: &'a str) -> Arg<'a>
     Arg::new(alloc, name).required(true)
 }
 
+// A word of this name, which need not be there.
+fn word_perhaps<'a>(alloc: Global, name: &'a str) -> Arg<'a>
+    ensures rule { rule_of result ≡ new_rule name.now }
+    ensures own { result.global ≡ false }
+{
+    Arg::new(alloc, name)
+}
+
 // An option, what help calls its value, and what it tells.
 fn option<'a>(alloc: Global, name: &'a str, value: &'a str, help: &'a str) -> Arg<'a>
     ensures rule { rule_of result ≡ option_rule name.now }
@@ -809,6 +979,28 @@ fn flag<'a>(alloc: Global, name: &'a str, help: &'a str) -> Arg<'a>
         .long(name)
         .action(ArgAction::SetTrue)
         .help(help)
+}
+
+/// What the manual says of the program, or of one of its commands: the text of this error, which is the help.
+///
+/// An `AllocError` where memory is refused.
+pub fn manual_text(alloc: Global, command: Option<&str>) -> Result<Error, AllocError> {
+    let told = match command {
+        Some(name) => help_by(alloc, &[PROGRAM, name, HELP]),
+        None => help_by(alloc, &[PROGRAM, HELP]),
+    }?;
+    match told.kind() {
+        ErrorKind::OutOfMemory => Err(AllocError),
+        _ => Ok(told),
+    }
+}
+
+// What these words, which ask for help, are answered.
+fn help_by(alloc: Global, words: &[&str]) -> Result<Error, AllocError> {
+    match parser(alloc)?.try_get_matches_from(words) {
+        Err(told) => Ok(told),
+        Ok(_) => error_of(alloc, ErrorKind::DisplayHelp, ""),
+    }
 }
 
 /// The error of flags of `load` that can't stand together, with the usage of `load`.

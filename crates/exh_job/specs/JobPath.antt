@@ -2,7 +2,7 @@
 use Rattle.std.specs.Prelude.{◌≡◌, ⊤, ℕ, List, Option, None, Some}
 use Rattle.std.specs.Borrow.{Bor}
 use Rattle.exh_command.specs.declared.job.Job.{Job}
-use Rattle.exh_command.specs.declared.job.Job.TheVariants.{Serve, Check, Dump, Load, Storm, Get, Change, Pairs, Convert}
+use Rattle.exh_command.specs.declared.job.Job.TheVariants.{Serve, Check, Dump, Load, Storm, Get, Change, Pairs, Convert, Create, Backup, Version, Manual}
 use Rattle.exh_job.specs.declared.job_path.JobPath.{JobPath}
 use Rattle.exh_job.specs.declared.ending.Ending.{Ending}
 use Rattle.exh_job.specs.declared.ending.Ending.TheVariants.{Over, Save, SaveAndTell, SaveNew}
@@ -12,7 +12,7 @@ at None = None
 at (Some path) = Some (record { path = path })
 
 -- the path of `--save`, and that of `load`; of a script never the one that is opened; a put, a del and a swap save where they read,
--- and a convert at the new path
+-- and a convert at the new path; a new file and a copy are made by the library, and saved nowhere else
 abbrev pub path_of : Job → Option JobPath
 path_of (Serve opened saved) = at saved
 path_of (Check path) = None
@@ -23,6 +23,10 @@ path_of (Get path key) = None
 path_of (Change path call) = at (Some path)
 path_of (Pairs path cap ward_bits keyer) = None
 path_of (Convert path new version) = at (Some new)
+path_of (Create path settings) = None
+path_of (Backup path new) = None
+path_of Version = None
+path_of (Manual command) = None
 
 -- what is saved at the end, if anything is, is saved there
 abbrev pub SavesAt : Option JobPath → Ending → Type 0

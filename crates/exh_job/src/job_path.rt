@@ -31,7 +31,11 @@ pub fn path_of<'w>(job: &Job<'w>) -> Option<JobPath<'w>>
         | Job::Dump { .. }
         | Job::Pairs { .. }
         | Job::Storm { .. }
-        | Job::Get { .. } => None,
+        | Job::Get { .. }
+        | Job::Create { .. }
+        | Job::Backup { .. }
+        | Job::Version
+        | Job::Manual { .. } => None,
     }
 }
 

@@ -2,16 +2,11 @@
 ghost use Rattle.std.specs.Prelude.{IfErr};
 ghost use Rattle.exh_map.specs.Sizes.{IsOther};
 
-use crate::reading::opened_at;
+use exh_backup::{opened_at, see_old_version};
 use exh_calls::{Call, Reply};
-use exh_codec::BLOCK_LEN;
-use exh_format::{Header, version_in};
 use exh_in_place::{change_at, put_at};
 use exh_map::StoreError;
 use exh_paged::PutIf;
-use std::fs::File;
-use std::io::ErrorKind;
-use std::os::unix::fs::FileExt;
 
 /// The reply of the page file of a path to a call, by which it is changed in place. For its lock it waits so many seconds.
 ///
@@ -52,22 +47,10 @@ fn unchanged(rt: &HostRuntime, path: &str) -> StoreError
     ensures { IsOther result }
 {
     match opened_at(rt, path) {
-        Ok(file) => unchanged_file(&file),
-        Err(fault) => fault,
-    }
-}
-
-// Why an open file that is no page file of version 3 isn't changed in place.
-fn unchanged_file(file: &File) -> StoreError
-    ensures { IsOther result }
-{
-    let mut block = [0; BLOCK_LEN];
-    match file.read_exact_at(&mut block, 0) {
-        Ok(()) => match Header::from_block(version_in(&block), &block) {
-            Ok(_) => StoreError::OldVersion,
-            Err(fault) => StoreError::from(fault),
+        Ok(file) => match see_old_version(&file) {
+            Ok(()) => StoreError::OldVersion,
+            Err(fault) => fault,
         },
-        Err(error) if error.kind() == ErrorKind::UnexpectedEof => StoreError::Truncated,
-        Err(error) => StoreError::from(error),
+        Err(fault) => fault,
     }
 }

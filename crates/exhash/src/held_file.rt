@@ -5,7 +5,8 @@ ghost use Rattle.exh_map.specs.FileMap.{KeepsMap};
 
 use crate::drafting::drafted;
 use crate::new_file::save_draft;
-use crate::reading::{opened_at, read_whole};
+use crate::reading::read_whole;
+use exh_backup::opened_at;
 use exh_file::{Draft, FileForm, Opened, PlacedForm, Stamps};
 use exh_frames::FileStore;
 use exh_in_place::{recover_at, save_in_place};

@@ -4,9 +4,11 @@
 
 pub use direct::Direct;
 pub use disk_commit::commit_files;
+pub use exh_backup::{BackupFault, backup};
 pub use exh_keyer::AnyKeyer as Keyer;
 pub use exh_map::{FileMap, Pairs, Put, PutNew, Settings, StoreError, Swap, USUAL};
 pub use exh_page::{KEY_LIMIT, Key, VALUE_LIMIT, Value};
+pub use new_file::make;
 pub use store::Store;
 
 mod change_at;

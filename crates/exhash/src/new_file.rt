@@ -16,7 +16,7 @@ use std::io::{ErrorKind, Stderr};
 /// file may be left.
 ///
 /// `Settings`: these are no file's. `Exists`: something is there. Others: it isn't made, as they say.
-pub(crate) fn make(rt: &HostRuntime, path: &str, settings: Settings) -> Result<(), StoreError> {
+pub fn make(rt: &HostRuntime, path: &str, settings: Settings) -> Result<(), StoreError> {
     let draft = empty_draft(rt, settings)?;
     let claimed = claim(rt, path)?;
     let seen = SystemDisk::new(rt).seen(path, claimed)?;

@@ -1,31 +1,16 @@
 //! Page files that are read whole.
-ghost use Rattle.std.specs.Prelude.{IfErr};
 ghost use Rattle.exh_map.specs.Sizes.{IsOther};
 
+use exh_backup::opened_at;
 use exh_file::{FileForm, Opened, open_form};
 use exh_frames::FileStore;
 use exh_in_place::{Reading, Refused, hold_still, read_one_state};
 use exh_map::StoreError;
 use exh_notes::ReasonReader;
-use exh_system::{InPlaceFault, open_regular};
+use exh_system::InPlaceFault;
 use std::alloc::Global;
 use std::cell::Cell;
 use std::fs::File;
-use std::io::ErrorKind;
-
-/// Opens the file of a path.
-///
-/// `Absent`: nothing is there, or an empty file. `Io`: it isn't opened, as one that isn't regular.
-pub(crate) fn opened_at(rt: &HostRuntime, path: &str) -> Result<File, StoreError>
-    ensures { IfErr result IsOther }
-{
-    match open_regular(rt, path) {
-        Ok(file) if file.metadata()?.len() == 0 => Err(StoreError::Absent),
-        Ok(file) => Ok(file),
-        Err(error) if error.kind() == ErrorKind::NotFound => Err(StoreError::Absent),
-        Err(error) => Err(StoreError::from(error)),
-    }
-}
 
 /// The wards of an open file, and how it has its pages in places.
 ///

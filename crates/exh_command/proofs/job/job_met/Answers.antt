@@ -1,7 +1,9 @@
-use Rattle.std.specs.Prelude.{IsSome}
-use Rattle.std.proofs.Common.{inl, inr, refl, subst, ◌∙◌}
+use Rattle.std.specs.Prelude.{IsSome, Some}
+use Rattle.std.proofs.Common.{ap₂, inl, inr, refl, subst, sym, ◌∙◌}
 use Rattle.std.proofs.lemmas.Result.{IfErr-weaker, IfOk-weaker}
-use Rattle.exh_command.proofs.ParserLemmas.{checks, converts, dels, dumps, gets, is_command, key_given, job_is, loads, no_options, own_is, own_of, pairs, path_given, puts, serves, some_met, storms, swaps}
+use Rattle.exh_command.specs.Job.{Copying}
+use Rattle.exh_command.proofs.WordLemmas.{some_is}
+use Rattle.exh_command.proofs.ParserLemmas.{backups, checks, converts, creates, dels, dumps, gets, is_command, key_given, job_is, loads, manuals, no_options, own_is, own_of, pairs, path_given, puts, serves, some_met, storms, swaps, versions}
 use Rattle.exh_command.proofs.job.job_met.Goals as goal
 
 pub unreachable-requires : goal.unreachable-requires
@@ -57,7 +59,7 @@ returns-in-storm-clause-wrong c =
 pub unreachable-requires-in_default-command : goal.unreachable-requires-in_default-command
 unreachable-requires-in_default-command c =
     let own = own_is c.args.matches.now c.in-Some.command.now c.in-Some.own.now c.requires.0 c.in-Some.ensures.name c.in-Some.ensures.rows c.requires.1 in
-    is_command c.requires.0 c.in-Some.command.now c.in-Some.own.now own c.in_default-command.not-serve c.in_default-command.not-check c.in_default-command.not-dump c.in_default-command.not-load c.in_default-command.not-storm c.in_default-command.not-get c.in_default-command.not-put c.in_default-command.not-del c.in_default-command.not-swap c.in_default-command.not-pairs c.in_default-command.not-convert
+    is_command c.requires.0 c.in-Some.command.now c.in-Some.own.now own c.in_default-command.not-serve c.in_default-command.not-check c.in_default-command.not-dump c.in_default-command.not-load c.in_default-command.not-storm c.in_default-command.not-get c.in_default-command.not-put c.in_default-command.not-del c.in_default-command.not-swap c.in_default-command.not-pairs c.in_default-command.not-convert c.in_default-command.not-create c.in_default-command.not-backup c.in_default-command.not-version c.in_default-command.not-manual
 
 pub get_job-requires : goal.get_job-requires
 get_job-requires c =
@@ -205,3 +207,64 @@ returns-in-pairs-clause-limits c = c.pairs_job.ensures.limits
 
 pub returns-in-convert-clause-limits : goal.returns-in-convert-clause-limits
 returns-in-convert-clause-limits c = c.convert_job.ensures.limits
+
+pub create_job-requires : goal.create_job-requires
+create_job-requires c =
+    let given = creates c.requires.0 c.in-Some.own.now (own_of c.args.matches.now c.in-Some.command.now c.in-Some.own.now _ c.in-Some.ensures.name c.in-Some.ensures.rows c.in-create.is c.requires.0 c.requires.1) in
+    record { path = subst IsSome given.path_is refl }
+
+pub returns-in-create-clause-named : goal.returns-in-create-clause-named
+returns-in-create-clause-named c =
+    IfOk-weaker c.create_job.result _ _ (λ job is asked met.
+    let given = creates asked c.in-Some.own.now (own_of c.args.matches.now c.in-Some.command.now c.in-Some.own.now _ c.in-Some.ensures.name c.in-Some.ensures.rows c.in-create.is asked met) in
+    job_is asked _ given.asked_is ∙ is given.path given.path_is) c.create_job.ensures.named
+
+pub returns-in-create-clause-wrong : goal.returns-in-create-clause-wrong
+returns-in-create-clause-wrong c =
+    IfErr-weaker c.create_job.result _ _ (λ fault none wrong asked met.
+    let given = creates asked c.in-Some.own.now (own_of c.args.matches.now c.in-Some.command.now c.in-Some.own.now _ c.in-Some.ensures.name c.in-Some.ensures.rows c.in-create.is asked met) in
+    job_is asked _ given.asked_is ∙ none wrong given.path) c.create_job.ensures.wrong
+
+pub returns-in-create-clause-limits : goal.returns-in-create-clause-limits
+returns-in-create-clause-limits c = c.create_job.ensures.limits
+
+pub path_in-requires-in-backup : goal.path_in-requires-in-backup
+path_in-requires-in-backup c =
+    let given = backups c.requires.0 c.in-Some.own.now (own_of c.args.matches.now c.in-Some.command.now c.in-Some.own.now _ c.in-Some.ensures.name c.in-Some.ensures.rows c.in-backup.is c.requires.0 c.requires.1) in
+    subst IsSome given.path_is refl
+
+pub new_path_in-requires : goal.new_path_in-requires
+new_path_in-requires c =
+    let given = backups c.requires.0 c.in-Some.own.now (own_of c.args.matches.now c.in-Some.command.now c.in-Some.own.now _ c.in-Some.ensures.name c.in-Some.ensures.rows c.in-backup.is c.requires.0 c.requires.1) in
+    subst IsSome given.new_is refl
+
+pub returns-in-backup-clause-named : goal.returns-in-backup-clause-named
+returns-in-backup-clause-named c = λ asked met.
+    let given = backups asked c.in-Some.own.now (own_of c.args.matches.now c.in-Some.command.now c.in-Some.own.now _ c.in-Some.ensures.name c.in-Some.ensures.rows c.in-backup.is asked met) in
+    job_is asked _ given.asked_is ∙ ap₂ (λ path new. Some (Copying path new)) (some_is (given.path_is ∙ sym c.path_in-in-backup.ensures)) (some_is (given.new_is ∙ sym c.new_path_in.ensures))
+
+pub returns-in-backup-clause-limits : goal.returns-in-backup-clause-limits
+returns-in-backup-clause-limits c = tt
+
+pub returns-in-backup-clause-wrong : goal.returns-in-backup-clause-wrong
+returns-in-backup-clause-wrong c = tt
+
+pub returns-in-version-clause-named : goal.returns-in-version-clause-named
+returns-in-version-clause-named c = λ asked met. job_is asked _ (versions asked c.in-Some.own.now (own_of c.args.matches.now c.in-Some.command.now c.in-Some.own.now _ c.in-Some.ensures.name c.in-Some.ensures.rows c.in-version.is asked met))
+
+pub returns-in-version-clause-limits : goal.returns-in-version-clause-limits
+returns-in-version-clause-limits c = tt
+
+pub returns-in-version-clause-wrong : goal.returns-in-version-clause-wrong
+returns-in-version-clause-wrong c = tt
+
+pub returns-in-manual-clause-named : goal.returns-in-manual-clause-named
+returns-in-manual-clause-named c =
+    IfOk-weaker c.manual_job.result _ _ (λ job is asked met. job_is asked _ (manuals asked c.in-Some.own.now (own_of c.args.matches.now c.in-Some.command.now c.in-Some.own.now _ c.in-Some.ensures.name c.in-Some.ensures.rows c.in-manual.is asked met)) ∙ is) c.manual_job.ensures.named
+
+pub returns-in-manual-clause-wrong : goal.returns-in-manual-clause-wrong
+returns-in-manual-clause-wrong c =
+    IfErr-weaker c.manual_job.result _ _ (λ fault none wrong asked met. job_is asked _ (manuals asked c.in-Some.own.now (own_of c.args.matches.now c.in-Some.command.now c.in-Some.own.now _ c.in-Some.ensures.name c.in-Some.ensures.rows c.in-manual.is asked met)) ∙ none wrong) c.manual_job.ensures.wrong
+
+pub returns-in-manual-clause-limits : goal.returns-in-manual-clause-limits
+returns-in-manual-clause-limits c = c.manual_job.ensures.limits
