@@ -1,4 +1,4 @@
-/* Records what a program does to the files of a folder: tests/power_cuts preloads it.
+/* Records what a program does to the files of a folder: tests/power_cuts and tests/stores preload it.
  *
  * Each call that makes, writes, cuts, synchronizes, renames or removes a file whose path begins with RECORDED is told,
  * once it has succeeded, to the descriptor RECORD_TO: its name, the path (of a rename both), where, and how many bytes

@@ -1,5 +1,5 @@
 /* Refuses a call of the system, kills the program there or lets it wait: tests/run, tests/failing_calls,
- * tests/meeting_saves, tests/failing_meetings and tests/in_place preload it.
+ * tests/meeting_saves, tests/failing_meetings, tests/in_place and tests/stores preload it.
  *
  * The call that REFUSED_CALL names, `open`, `read`, `pread`, `write`, `pwrite`, `fsync`, `fdatasync`, `rename`, `link`,
  * `ftruncate`, `fchmod`, `fchown`, `flock`, `unlink`, `dup`, `statx`, `realpath` or `readlink`, or each of these by `any`,

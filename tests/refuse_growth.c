@@ -1,5 +1,5 @@
-/* Refuses one growth of memory, or kills the program there, or counts them: tests/run, tests/failing_calls and
- * tests/decodings preload it.
+/* Refuses one growth of memory, or kills the program there, or counts them: tests/run, tests/failing_calls,
+ * tests/decodings and tests/stores preload it.
  *
  * Counted from the start of main over all threads, the call number REFUSED_GROWTH of malloc, calloc, realloc,
  * aligned_alloc and posix_memalign is answered as where no memory is left, or where REFUSED_KILLS is set the program is

@@ -2,9 +2,10 @@
 
 use crate::Refused;
 use crate::locked::{Locked, begin, locked_at};
-use crate::system_files::close;
+use crate::system_files::{close, opened};
 use exh_calls::{Call, Reply};
 use exh_paged::{PutIf, call_files, calls_files, put_files};
+use sqlite_std_file::Wary;
 
 /// Answers a call by the page file of a path in place, where that is of version 3; `None` where it is of another version, or
 /// isn't opened. It is locked before it is read, for which it waits so many seconds.
@@ -56,17 +57,21 @@ pub fn put_at(
 
 // Answers a call by a page file that is locked.
 fn change_locked(rt: &HostRuntime, locked: &Locked, call: &Call) -> Result<Reply, Refused> {
+    let whole = locked.whole.as_str();
     let it = begin(rt, locked)?;
-    let (changed, files) = call_files(rt.alloc(), it.files, it.options, it.own, call, it.stamp);
-    close(rt, locked.whole.as_str(), changed.is_ok(), files);
+    let files = opened(rt, whole, Wary)?;
+    let (changed, files) = call_files(rt.alloc(), files, it.options, it.own, call, it.stamp);
+    close(rt, whole, changed.is_ok(), files);
     Ok(changed?)
 }
 
 // Makes a put in a page file that is locked, or not.
 fn put_locked(rt: &HostRuntime, locked: &Locked, put: &PutIf) -> Result<Reply, Refused> {
+    let whole = locked.whole.as_str();
     let it = begin(rt, locked)?;
-    let (changed, files) = put_files(rt.alloc(), it.files, it.options, it.own, put, it.stamp);
-    close(rt, locked.whole.as_str(), changed.is_ok(), files);
+    let files = opened(rt, whole, Wary)?;
+    let (changed, files) = put_files(rt.alloc(), files, it.options, it.own, put, it.stamp);
+    close(rt, whole, changed.is_ok(), files);
     Ok(changed?)
 }
 
@@ -76,8 +81,10 @@ fn change_all_locked(
     locked: &Locked,
     calls: &[Call],
 ) -> Result<Vec<Reply>, Refused> {
+    let whole = locked.whole.as_str();
     let it = begin(rt, locked)?;
-    let (changed, files) = calls_files(rt.alloc(), it.files, it.options, it.own, calls, it.stamp);
-    close(rt, locked.whole.as_str(), changed.is_ok(), files);
+    let files = opened(rt, whole, Wary)?;
+    let (changed, files) = calls_files(rt.alloc(), files, it.options, it.own, calls, it.stamp);
+    close(rt, whole, changed.is_ok(), files);
     Ok(changed?.replies)
 }

@@ -1,13 +1,9 @@
 //! Page files of the system that are locked to be changed.
-ghost use Rattle.std.specs.Prelude.{true, false, IsTrue, IfOk};
-ghost use Rattle.sqlite_std_file.specs.File.{file_is_usable, IsFresh};
 
 use crate::Refused;
-use crate::system_files::{SystemBlocks, opened, options, own_stamp};
+use crate::system_files::{options, own_stamp};
 use exh_system::{InPlaceFault, draw_stamp, front_of, is_at, lock_soon, open_regular, see_fit};
-use sqlite_disk::Files;
 use sqlite_pager::Options;
-use sqlite_std_file::{Start, Wary};
 use std::fs;
 use std::fs::File;
 use std::path::PathBuf;
@@ -25,8 +21,6 @@ pub(crate) struct Locked {
 /// What a change of a page file of the system begins with.
 #[derive(Drop)]
 pub(crate) struct Begun {
-    /// The file and its log, which is made.
-    pub(crate) files: Files<SystemBlocks>,
     pub(crate) options: Options,
     /// The stamp of the file without its log, `None` where its header is damaged.
     pub(crate) own: Option<u64>,
@@ -76,20 +70,13 @@ pub(crate) fn lock_again(
     Ok(whole)
 }
 
-/// Opens a locked page file with its log, if it is fit to be changed in place.
-pub(crate) fn begin(rt: &HostRuntime, locked: &Locked) -> Result<Begun, Refused>
-    ensures log { IfOk result (λ begun. IsTrue (file_is_usable Wary.Start begun.files.log)) }
-    ensures db { IfOk result (λ begun. IsTrue (file_is_usable Wary.Start begun.files.db)) }
-    ensures fresh { IfOk result (λ begun. IsFresh true begun.files.log × IsFresh false begun.files.db) }
-{
-    let whole = locked.whole.as_str();
-    see_fit(rt, &locked.file, whole)?;
+/// What a change of a locked page file begins with, if that is fit to be changed in place.
+pub(crate) fn begin(rt: &HostRuntime, locked: &Locked) -> Result<Begun, Refused> {
+    see_fit(rt, &locked.file, locked.whole.as_str())?;
     let own = own_stamp(&locked.file)?;
     let stamp = draw_stamp(rt)?;
     let options = options(rt)?;
-    let files = opened(rt, whole, Wary)?;
     Ok(Begun {
-        files,
         options,
         own,
         stamp,

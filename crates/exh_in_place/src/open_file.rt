@@ -1,11 +1,12 @@
 use crate::Refused;
 use crate::locked::{Locked, begin, locked_at};
-use crate::system_files::{SystemBlocks, close};
+use crate::system_files::{SystemBlocks, close, opened};
 use exh_calls::{Call, Reply};
 use exh_commit::ChangeFault;
 use exh_paged::{CallFile, FilesFault};
 use exh_system::draw_stamp;
 use sqlite_pager::Error;
+use sqlite_std_file::Wary;
 
 /// A page file of version 3 of the system, locked and open with its log, which answers calls in place until it is closed.
 #[derive(Drop)]
@@ -26,7 +27,8 @@ impl OpenFile {
             return Ok(None);
         };
         let it = begin(rt, &locked)?;
-        match CallFile::open(rt.alloc(), it.files, it.options, it.own) {
+        let files = opened(rt, locked.whole.as_str(), Wary)?;
+        match CallFile::open(rt.alloc(), files, it.options, it.own) {
             Ok(file) => Ok(Some(OpenFile {
                 locked,
                 file,

@@ -25,10 +25,10 @@ use Rattle.exh_paged.specs.declared.put_if.PutIf.{PutIf}
 
 -- ---- by what the key is, and whether new keys are turned away
 
-put_effect : List ℕ → List ℕ → Bool → Option (List ℕ) → Effect
+abbrev put_effect : List ℕ → List ℕ → Bool → Option (List ℕ) → Effect
 put_effect key value full stood = effect_of (Put key value) full stood
 
-call_effect : KeyIs → List ℕ → List ℕ → Bool → Option (List ℕ) → Effect
+abbrev call_effect : KeyIs → List ℕ → List ℕ → Bool → Option (List ℕ) → Effect
 call_effect key_is key value full stood = effect_of (call_for key_is key value stood) full stood
 
 reply_by : (key_is : KeyIs) (key value : List ℕ) (full : Bool) (stood : Option (List ℕ)) → reply_kept key_is (put_effect key value full stood).reply ≡ (call_effect key_is key value full stood).reply

@@ -4,6 +4,7 @@ ghost use Rattle.exh_map.specs.Sizes.{IsOther, IsSized};
 
 use crate::change_at::{changed_at, put_if_at};
 use crate::key_reading::KeyReading;
+use crate::reading::unread;
 use exh_calls::{Call, Reply};
 use exh_in_place::read_one_state;
 use exh_map::{Put, PutNew, StoreError, Swap, key_of, value_of};
@@ -39,8 +40,8 @@ impl<'r> Direct<'r> {
 
     /// The value of a key in one state of the file, or `None` where it has none.
     ///
-    /// `EmptyKey`, `KeyTooLong`: it is no key. `Changed`: the file was being changed all the while. Others: the file isn't
-    /// opened or read, as they say.
+    /// `EmptyKey`, `KeyTooLong`: it is no key. `Absent`: nothing is there, or an empty file. `Changed`: the file was being
+    /// changed all the while. Others: the file isn't opened or read, as they say.
     pub fn get(&self, key: &[u8]) -> Result<Option<Value>, StoreError>
         ensures sized { IsSized key.now [] result }
     {
@@ -58,15 +59,18 @@ impl<'r> Direct<'r> {
             key,
             reason: &reason,
         };
-        match read_one_state(self.rt, self.path, &mut reading, self.seconds)? {
-            Ok(value) => Ok(value),
-            Err(fault) => Err(StoreError::of_finding(fault, reason.get())),
-        }
+        let fault = match read_one_state(self.rt, self.path, &mut reading, self.seconds) {
+            Ok(Ok(value)) => return Ok(value),
+            Ok(Err(fault)) => StoreError::of_finding(fault, reason.get()),
+            Err(refused) => StoreError::from(refused),
+        };
+        Err(unread(self.rt, self.path, fault))
     }
 
     /// Gives a key a value, new or in place of another.
     ///
-    /// `EmptyKey`, `KeyTooLong`, `ValueTooLong`: it is no key or no value. `OldVersion`: the file is of version 1 or 2.
+    /// `EmptyKey`, `KeyTooLong`, `ValueTooLong`: it is no key or no value. `Absent`: nothing is there, or an empty file.
+    /// `OldVersion`: the file is of version 1 or 2.
     /// `Busy`: another process has the writers' lock. `Unsure`: the change is saved or not, which the next call tells. Others:
     /// nothing was changed, as they say.
     pub fn put(&self, key: &[u8], value: &[u8]) -> Result<Put, StoreError>

@@ -15,8 +15,6 @@ mod disk_commit;
 #[cfg(test)]
 mod disk_examples;
 mod drafting;
-#[cfg(test)]
-mod examples;
 mod held_file;
 mod key_reading;
 mod new_file;

@@ -110,16 +110,17 @@ impl<'r> Store<'r> {
     }
 
     /// Opens one state of the page file of a path to be read, also beside others that change it, and holds nothing of it.
-    /// What is changed of the store isn't committed. It waits five seconds for those that are changing the file.
+    /// What is changed of the store isn't committed. It reads for five seconds while others are changing the file.
     ///
-    /// Errors: as of `open`.
+    /// `Absent`: nothing is there, or an empty file. `Changed`: it was being changed all the while. Others: it isn't opened, as
+    /// they say.
     pub fn open_read(rt: &'r HostRuntime, path: &str) -> Result<Store<'r>, StoreError>
         ensures read { IfOk result (λ store. IsReadOnly store.file) }
     {
         Store::open_read_within(rt, path, WAIT)
     }
 
-    /// The same, and waits so many seconds.
+    /// The same, and reads for so many seconds.
     pub fn open_read_within(
         rt: &'r HostRuntime,
         path: &str,
@@ -169,7 +170,7 @@ impl<'r> Store<'r> {
         let key = key_of(key)?;
         let value = value_of(value)?;
         let put = self.map.put(&key, &value)?;
-        self.is_changed = true;
+        self.is_changed |= !matches!(put, Put::Full);
         Ok(put)
     }
 
@@ -185,7 +186,7 @@ impl<'r> Store<'r> {
         let key = key_of(key)?;
         let value = value_of(value)?;
         let put = self.map.put_new(&key, &value)?;
-        self.is_changed = true;
+        self.is_changed |= matches!(put, PutNew::New);
         Ok(put)
     }
 
@@ -201,7 +202,7 @@ impl<'r> Store<'r> {
         let key = key_of(key)?;
         let value = value_of(value)?;
         let replaced = self.map.replace(&key, &value)?;
-        self.is_changed = true;
+        self.is_changed |= replaced.is_some();
         Ok(replaced)
     }
 
@@ -216,7 +217,7 @@ impl<'r> Store<'r> {
     {
         let key = key_of(key)?;
         let removed = self.map.remove(&key)?;
-        self.is_changed = true;
+        self.is_changed |= removed.is_some();
         Ok(removed)
     }
 
@@ -233,7 +234,7 @@ impl<'r> Store<'r> {
         let old = value_of(old)?;
         let new = value_of(new)?;
         let swap = self.map.swap(&key, &old, &new)?;
-        self.is_changed = true;
+        self.is_changed |= matches!(swap, Swap::Swapped);
         Ok(swap)
     }
 
@@ -269,7 +270,7 @@ impl<'r> Store<'r> {
     /// older one the whole file. On `Ok` it is on the disk. A crash leaves all of it or nothing.
     ///
     /// `ReadOnly`: the store was opened to be read. `Vanished`, `Changed`: the file is no longer the one that was opened.
-    /// `Unsure`: the change is saved or not, which the next open tells. `Unheld`: it is saved,
+    /// `Unsure`: the change is saved or not, which the next open tells, and this store commits no more. `Unheld`: it is saved,
     /// but this store commits no more. Others: nothing was saved, as they say. The pairs of the store are as before in each
     /// case.
     pub fn commit(&mut self) -> Result<(), StoreError>

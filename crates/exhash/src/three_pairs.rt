@@ -1,4 +1,4 @@
-//! The three-pair file of FORMATS.md, in versions 2 and 3, which is written out by hand from its tables.
+//! The three-pair file of FORMATS.md in version 3, which is written out by hand from its tables.
 ghost use Rattle.std.specs.Prelude.{◌≤◌, ◌+◌, length};
 ghost use Rattle.exh_codec.specs.declared.block.TheConstants.{CONTENT_LEN};
 
@@ -23,11 +23,11 @@ fn begun(bytes: &[u8]) -> Block
     block
 }
 
-// The header of cap 2 under keyer plain, with two pages, of a version and of so many entries.
-fn header(version: u8, entries: u8) -> Block {
+// The header of cap 2 under keyer plain, with two pages.
+fn header() -> Block {
     let mut block = begun(b"EXHASHPF");
-    put(&mut block, 8, &[0, version, 2, 0, 2]);
-    put(&mut block, 19, &[entries, 0, 0, 0, 2]);
+    put(&mut block, 8, &[0, 3, 2, 0, 2]);
+    put(&mut block, 19, &[0, 0, 0, 0, 2]);
     block
 }
 
@@ -53,17 +53,10 @@ fn sealed(alloc: Global, blocks: &[Block]) -> Result<Vec<u8>, AllocError> {
     Ok(bytes)
 }
 
-/// The file of version 2.
-pub(crate) fn second_version(alloc: Global) -> Result<Vec<u8>, AllocError> {
-    let [first, second] = pages();
-    let table = begun(&[0, 1, 0, 0, 0, 0, 0, 0, 0, 0, 0, 1, 0, 0, 0, 1]);
-    sealed(alloc, &[header(2, 1), first, second, table])
-}
-
 /// The file of version 3, with the stamps 7 and 5.
 pub(crate) fn third_version(alloc: Global) -> Result<Vec<u8>, AllocError> {
     let [first, second] = pages();
-    let mut head = header(3, 0);
+    let mut head = header();
     put(
         &mut head,
         84,

@@ -1,0 +1,77 @@
+# What else a path may lead to: nothing, an empty file, a folder, a pipe, a link, a name too long, a file of a second name.
+! folder folder
+! pipe pipe
+! bytes empty.exh
+! link link.exh people.exh
+! link lost.exh nowhere/people.exh
+! link round.exh round.exh
+one> open folder
+one= refused: not a regular file
+one> direct folder get k
+one= refused: not a regular file
+one> open-read folder
+one= refused: not a regular file
+one> create folder 2 0 plain
+one= refused: something is there already
+one> open pipe 0
+one= refused: not a regular file
+one> direct pipe put k v
+one= refused: not a regular file
+one> create pipe 2 0 plain
+one= refused: something is there already
+one> open empty.exh
+one= refused: nothing is there
+one> direct empty.exh get k
+one= refused: nothing is there
+one> open empty.exh/people.exh
+one= refused: Not a directory (os error 20)
+one> create lost.exh 2 0 plain
+one= refused: something is there already
+# A link to nothing isn't followed to make a file, and one to a file leads there.
+one> open link.exh
+one= refused: nothing is there
+one> create people.exh 2 0 plain
+one= done
+one> put k v
+one= new
+one> close
+one= done
+one> open link.exh
+one= done
+one> put l w
+one= new
+one> commit
+one= done
+two> open people.exh 0
+two= refused: another process is at work on it
+one> drop
+one= done
+! pairs people.exh
+= k v
+= l w
+two> open folder/../people.exh
+two= done
+two> put m x
+two= new
+two> close
+two= done
+# An empty file is a place for a new one.
+one> create empty.exh 2 0 plain
+one= done
+one> put k v
+one= new
+one> close
+one= done
+! pairs empty.exh
+= k v
+# A name that leaves none for the log, and the longest that does.
+one> create nnnnnnnnnnnnnnnnnnnnnnnnnnnnnnnnnnnnnnnnnnnnnnnnnnnnnnnnnnnnnnnnnnnnnnnnnnnnnnnnnnnnnnnnnnnnnnnnnnnnnnnnnnnnnnnnnnnnnnnnnnnnnnnnnnnnnnnnnnnnnnnnnnnnnnnnnnnnnnnnnnnnnnnnnnnnnnnnnnnnnnnnnnnnnnnnnnnnnnnnnnnnnnnnnnnnnnnnnnnnnnnnnnnnnnnnnnnnnnnnnnnnnnn 2 0 plain
+one= done
+one> put k v
+one= new
+one> close
+one= done
+! pairs nnnnnnnnnnnnnnnnnnnnnnnnnnnnnnnnnnnnnnnnnnnnnnnnnnnnnnnnnnnnnnnnnnnnnnnnnnnnnnnnnnnnnnnnnnnnnnnnnnnnnnnnnnnnnnnnnnnnnnnnnnnnnnnnnnnnnnnnnnnnnnnnnnnnnnnnnnnnnnnnnnnnnnnnnnnnnnnnnnnnnnnnnnnnnnnnnnnnnnnnnnnnnnnnnnnnnnnnnnnnnnnnnnnnnnnnnnnnnnnnnnnnnnn
+= k v
+one> create nnnnnnnnnnnnnnnnnnnnnnnnnnnnnnnnnnnnnnnnnnnnnnnnnnnnnnnnnnnnnnnnnnnnnnnnnnnnnnnnnnnnnnnnnnnnnnnnnnnnnnnnnnnnnnnnnnnnnnnnnnnnnnnnnnnnnnnnnnnnnnnnnnnnnnnnnnnnnnnnnnnnnnnnnnnnnnnnnnnnnnnnnnnnnnnnnnnnnnnnnnnnnnnnnnnnnnnnnnnnnnnnnnnnnnnnnnnnnnnnnnnnnnnnnnnnnnnn 2 0 plain
+one= refused: File name too long (os error 36)
