@@ -49,7 +49,11 @@ static void tell_of(const char *call, int descriptor, long where, const void *by
     errno = before;
 }
 
-static int opened(int descriptor, const char *path, int flags, int was_there) {
+static int opened(const char *name, const char *path, int flags, va_list rest) {
+    struct stat about;
+    mode_t mode = flags & O_CREAT ? va_arg(rest, mode_t) : 0;
+    int was_there = stat(path, &about) == 0;
+    int descriptor = REAL(name, int, const char *, int, ...)(path, flags, mode);
     if (descriptor >= 0 && (flags & O_CREAT) && !was_there)
         tell("make", path, "", 0, "", 0);
     if (descriptor >= 0 && (flags & O_TRUNC) && was_there)
@@ -58,45 +62,38 @@ static int opened(int descriptor, const char *path, int flags, int was_there) {
 }
 
 int open(const char *path, int flags, ...) {
-    struct stat about;
     va_list rest;
     va_start(rest, flags);
-    mode_t mode = flags & O_CREAT ? va_arg(rest, mode_t) : 0;
+    int descriptor = opened("open", path, flags, rest);
     va_end(rest);
-    int was_there = stat(path, &about) == 0;
-    return opened(REAL("open", int, const char *, int, ...)(path, flags, mode), path, flags, was_there);
+    return descriptor;
 }
 
 int open64(const char *path, int flags, ...) {
-    struct stat about;
     va_list rest;
     va_start(rest, flags);
-    mode_t mode = flags & O_CREAT ? va_arg(rest, mode_t) : 0;
+    int descriptor = opened("open64", path, flags, rest);
     va_end(rest);
-    int was_there = stat(path, &about) == 0;
-    return opened(REAL("open64", int, const char *, int, ...)(path, flags, mode), path, flags, was_there);
+    return descriptor;
 }
 
-ssize_t write(int descriptor, const void *bytes, size_t size) {
-    off_t at = lseek(descriptor, 0, SEEK_CUR);
-    ssize_t taken = REAL("write", ssize_t, int, const void *, size_t)(descriptor, bytes, size);
+static ssize_t written(ssize_t taken, int descriptor, off_t at, const void *bytes) {
     if (taken > 0 && at >= 0)
         tell_of("write", descriptor, (long)at, bytes, (size_t)taken);
     return taken;
 }
 
+ssize_t write(int descriptor, const void *bytes, size_t size) {
+    off_t at = lseek(descriptor, 0, SEEK_CUR);
+    return written(REAL("write", ssize_t, int, const void *, size_t)(descriptor, bytes, size), descriptor, at, bytes);
+}
+
 ssize_t pwrite(int descriptor, const void *bytes, size_t size, off_t at) {
-    ssize_t taken = REAL("pwrite", ssize_t, int, const void *, size_t, off_t)(descriptor, bytes, size, at);
-    if (taken > 0)
-        tell_of("write", descriptor, (long)at, bytes, (size_t)taken);
-    return taken;
+    return written(REAL("pwrite", ssize_t, int, const void *, size_t, off_t)(descriptor, bytes, size, at), descriptor, at, bytes);
 }
 
 ssize_t pwrite64(int descriptor, const void *bytes, size_t size, off_t at) {
-    ssize_t taken = REAL("pwrite64", ssize_t, int, const void *, size_t, off_t)(descriptor, bytes, size, at);
-    if (taken > 0)
-        tell_of("write", descriptor, (long)at, bytes, (size_t)taken);
-    return taken;
+    return written(REAL("pwrite64", ssize_t, int, const void *, size_t, off_t)(descriptor, bytes, size, at), descriptor, at, bytes);
 }
 
 static int cut(int done, int descriptor, off_t size) {

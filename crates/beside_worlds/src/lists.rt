@@ -9,11 +9,12 @@ use crate::row::Row::{
 use exh_fixtures::Said::{self, Absent, Changed, Differs, Full, Is, New, Swapped, Unswapped, Was};
 use exh_ward::WardFault;
 
-/// A list of events, what it is called, and at least how many calls of pages they make.
+/// A list of events, those that it has in common with others and those of its own, what it is called, and at least how
+/// many calls of pages they make.
 #[derive(Clone, Copy)]
 pub(crate) struct List {
     pub(crate) name: &'static str,
-    pub(crate) rows: &'static [Row],
+    pub(crate) rows: [&'static [Row]; 2],
     pub(crate) least: u64,
 }
 
@@ -22,27 +23,27 @@ pub(crate) struct List {
 pub(crate) const LISTS: [List; 5] = [
     List {
         name: "revived page",
-        rows: &REVIVED,
+        rows: [&THREE_KEYS, &REVIVED],
         least: 5 + 10 + 4 + 3,
     },
     List {
         name: "late table",
-        rows: &LATE_TABLE,
+        rows: [&THREE_KEYS, &LATE_TABLE],
         least: 4 + 9 + 2 + 3,
     },
     List {
         name: "all splits",
-        rows: &ALL_SPLITS,
+        rows: [&[], &ALL_SPLITS],
         least: 4 + 9 + 40 + 1,
     },
     List {
         name: "swaps",
-        rows: &SWAPS,
+        rows: [&THREE_KEYS, &SWAPS],
         least: 9 + 18 + 2,
     },
     List {
         name: "restarted copy",
-        rows: &RESTARTED_COPY,
+        rows: [&THREE_KEYS, &RESTARTED_COPY],
         least: 7 + 14 + 2 + 3 + 3,
     },
 ];
@@ -64,8 +65,8 @@ const SECOND: Change = Change(2, "", 2, None);
 
 const THIRD: Change = Change(3, "", 3, Some(1));
 
-// The page of the prefix 1 is merged away under a request, and live again.
-const REVIVED: [Row; 15] = [
+// Three keys, for the last of which the root is split.
+const THREE_KEYS: [Row; 8] = [
     Begin(1, 1, PUT_A, 0),
     Done(1, PUT_A, 0, 0),
     Begin(2, 1, PUT_B, 0),
@@ -74,6 +75,10 @@ const REVIVED: [Row; 15] = [
     MustSplit(3),
     Split(0, FIRST),
     Done(3, PUT_X, 0, 1),
+];
+
+// The page of the prefix 1 is merged away under a request, and live again.
+const REVIVED: [Row; 7] = [
     Taken(1, FIRST),
     Begin(5, 1, GET_B, 1),
     Begin(6, 1, DEL_X, 0),
@@ -84,15 +89,7 @@ const REVIVED: [Row; 15] = [
 ];
 
 // A table that was sent before a merge reaches a copy behind its notice.
-const LATE_TABLE: [Row; 16] = [
-    Begin(1, 1, PUT_A, 0),
-    Done(1, PUT_A, 0, 0),
-    Begin(2, 1, PUT_B, 0),
-    Done(2, PUT_B, 0, 0),
-    Begin(3, 1, PUT_X, 0),
-    MustSplit(3),
-    Split(0, FIRST),
-    Done(3, PUT_X, 0, 1),
+const LATE_TABLE: [Row; 8] = [
     Taken(1, FIRST),
     Sent(1, 1),
     Begin(4, 1, DEL_X, 0),
@@ -161,15 +158,7 @@ const SWAP_X: Said<'static> = Swapped(b"\x40", b"x", b"y");
 const GET_NONE: Said<'static> = Absent(b"\xc0");
 
 // After the three keys, of which no copy is told: swaps of the value that stands, of another one, and of none.
-const SWAPS: [Row; 22] = [
-    Begin(1, 1, PUT_A, 0),
-    Done(1, PUT_A, 0, 0),
-    Begin(2, 1, PUT_B, 0),
-    Done(2, PUT_B, 0, 0),
-    Begin(3, 1, PUT_X, 0),
-    MustSplit(3),
-    Split(0, FIRST),
-    Done(3, PUT_X, 0, 1),
+const SWAPS: [Row; 14] = [
     Begin(4, 2, SWAP_B, 0),
     Moved(4, 1),
     Done(4, SWAP_B, 1, 1),
@@ -189,15 +178,7 @@ const SWAPS: [Row; 22] = [
 // What the lists above lack: a split and a merge that are refused for the page's records, requests that are begun at a
 // copy which the late table told nothing, and at a page that is merged away, and a copy that restarts and is told of the
 // split by that table.
-const RESTARTED_COPY: [Row; 27] = [
-    Begin(1, 1, PUT_A, 0),
-    Done(1, PUT_A, 0, 0),
-    Begin(2, 1, PUT_B, 0),
-    Done(2, PUT_B, 0, 0),
-    Begin(3, 1, PUT_X, 0),
-    MustSplit(3),
-    Split(0, FIRST),
-    Done(3, PUT_X, 0, 1),
+const RESTARTED_COPY: [Row; 19] = [
     NoSplit(1, WardFault::NotFull),
     NoMerge(0, WardFault::TooMany(3)),
     Taken(1, FIRST),

@@ -56,12 +56,13 @@ fn take_list<P: Pages + Drop, M: StoreMaker<P, AnyKeyer> + Copy>(
     maker: M,
     list: List,
 ) -> Result<(), Difference> {
-    let turns = turns_of(run.alloc, list.rows)?;
+    let turns = turns_of(run.alloc, list)?;
     let mut refusals = Vec::new(run.alloc);
     refusals.resize(turns.len(), 0)?;
     let count = refuse_each_call::<P, M>(run.alloc, maker, &turns, &mut refusals)?;
     run.tally.check(same(count >= list.least, Part::Fault));
-    for (row, times) in list.rows.iter().zip(&refusals) {
+    let [common, own] = list.rows;
+    for (row, times) in common.iter().chain(own).zip(&refusals) {
         let least = row.least_calls();
         let is_met = if least == 0 {
             *times == 0

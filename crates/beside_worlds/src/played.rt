@@ -1,7 +1,7 @@
 //! Lists of events that were played, at once or one by one.
 
 use crate::alike::are_alike;
-use crate::row::Row;
+use crate::lists::List;
 use exh_event::{Event, StepFault, Turn};
 use exh_fixtures::{Difference, Part, again, same};
 use exh_keyer::AnyKeyer;
@@ -79,10 +79,11 @@ impl<P: Pages + Drop> Played<P> {
     }
 }
 
-/// The turns that rows tell.
-pub(crate) fn turns_of(alloc: Global, rows: &[Row]) -> Result<Vec<Turn>, Difference> {
+/// The turns that a list's rows tell.
+pub(crate) fn turns_of(alloc: Global, list: List) -> Result<Vec<Turn>, Difference> {
     let mut turns = Vec::new(alloc);
-    for row in rows {
+    let [common, own] = list.rows;
+    for row in common.iter().chain(own) {
         row.push_turn(&mut turns)?;
     }
     Ok(turns)

@@ -1,9 +1,8 @@
 //! Lists of events that a world does at once. Where a growth is refused in one of them, its turn says so, and the others
 //! and what they leave are those of the list without it; standard error says in which list that was.
 
-use crate::lists::LISTS;
+use crate::lists::{LISTS, List};
 use crate::played::{OUT_OF_MEMORY, Played, events_of, new_world, play, turns_of};
-use crate::row::Row;
 use exh_event::Turn;
 use exh_fixtures::{Difference, Part, Run, same};
 use exh_stores::PlainPages;
@@ -11,7 +10,7 @@ use exh_stores::PlainPages;
 /// Plays each list.
 pub(crate) fn run<R: Eprint>(rt: &R, run: &mut Run) -> Result<(), Difference> {
     for list in LISTS {
-        if is_refused_in(run, list.rows)? {
+        if is_refused_in(run, list)? {
             // Where the line can't be written, a case that waits for it fails.
             let _ = eprintln!(rt; "turns: refused 10 in {}", list.name);
         }
@@ -20,8 +19,8 @@ pub(crate) fn run<R: Eprint>(rt: &R, run: &mut Run) -> Result<(), Difference> {
 }
 
 // Plays a list. Whether a growth was refused in an event of it.
-fn is_refused_in(run: &mut Run, rows: &[Row]) -> Result<bool, Difference> {
-    let turns = turns_of(run.alloc, rows)?;
+fn is_refused_in(run: &mut Run, list: List) -> Result<bool, Difference> {
+    let turns = turns_of(run.alloc, list)?;
     let events = events_of(run.alloc, &turns)?;
     let mut played = play(new_world(run.alloc)?, &events)?;
     compare(run, &mut played, &turns)?;

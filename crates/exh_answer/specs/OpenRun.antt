@@ -5,8 +5,8 @@ use Rattle.exh_text.specs.Printing.{refused_text}
 use Rattle.exh_versions.specs.declared.file_form.FileForm.{FileForm}
 use Rattle.exh_file.specs.Opened.{OpenedState}
 use Rattle.exh_file.specs.Opening.{IsOpenedAs, IsOpenFaultOf}
-use Rattle.exh_file.specs.declared.open_fault.OpenFault.{OpenFault}
-use Rattle.exh_file.specs.declared.open_fault.OpenFault.TheVariants.{File, Page}
+use Rattle.exh_file_faults.specs.declared.open_fault.OpenFault.{OpenFault}
+use Rattle.exh_file_faults.specs.declared.open_fault.OpenFault.TheVariants.{File, Page}
 use Rattle.exh_report.specs.Finding.{refusal_words}
 use Rattle.exh_answer.specs.LastLine.{PrintsLine, memory_line}
 use Rattle.exh_answer.specs.declared.status.Status.{Status}

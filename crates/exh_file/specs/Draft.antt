@@ -5,11 +5,7 @@ use Rattle.exh_format.specs.PageFile.{file_bytes}
 use Rattle.exh_cells.specs.PlacedFile.{lows_of, placed_bytes}
 use Rattle.exh_placing.specs.declared.page_at.PageAt.{PageAt}
 use Rattle.exh_placing.specs.Order.{first_pages, with_others}
-use Rattle.exh_file.specs.declared.draft_fault.DraftFault.{DraftFault}
-use Rattle.exh_file.specs.declared.draft_fault.DraftFault.TheVariants.{Memory, Page}
 use Rattle.exh_file.specs.declared.placing.Form.{Form}
-use Rattle.exh_file.specs.declared.save_fault.SaveFault.{SaveFault}
-use Rattle.exh_file.specs.declared.save_fault.SaveFault.TheVariants.{Write, Page as OutOfReach, Memory as OutOfMemory}
 use Rattle.exh_file.specs.declared.placing.Form.TheVariants.{Placed, Plain}
 use Rattle.exh_file.specs.declared.placing.Placing.{Placing}
 use Rattle.exh_file.specs.declared.placing.Stamps.{Stamps}
@@ -66,9 +62,3 @@ IsAnew opened stamps draft = IsDraftedSo opened (with_others (map length (pages_
 -- a file that grew: the pages that had these low bounds in their places, and behind them the others, ward by ward
 abbrev pub IsGrown : OpenedState → List ℕ → Stamps → DraftState → Type 0
 IsGrown opened lows stamps draft = (order : List PageAt) × IsGrownOrder opened.ward_bits opened.wards lows order × IsDraftedSo opened order lows stamps draft
-
--- the fault that one of reading pages becomes, which is never the writer's
-abbrev pub draft_fault_of : SaveFault → DraftFault
-draft_fault_of OutOfMemory = Memory
-draft_fault_of OutOfReach = Page
-draft_fault_of Write = Page

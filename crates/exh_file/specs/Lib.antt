@@ -8,7 +8,10 @@ pub use Rattle.exh_format.specs.PageFile
 pub use Rattle.exh_format.specs.ReadFileFault
 pub use Rattle.exh_format.specs.Reading
 pub use Rattle.exh_format.specs.Writing
-pub mod OpenFault
+-- the faults of opening and of writing
+pub use Rattle.exh_file_faults.specs.OpenFault
+pub use Rattle.exh_file_faults.specs.SaveFault
+pub use Rattle.exh_file_faults.specs.DraftFault
 pub mod Opened
 pub mod Opening
 pub mod WardChange
@@ -22,7 +25,6 @@ pub mod HomeLemmas
 pub mod TurnLemmas
 pub mod OneMapLemmas
 pub mod InWardLemmas
-pub mod SaveFault
 pub mod Saved
 pub mod Placing
 pub mod Draft

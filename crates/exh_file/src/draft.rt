@@ -6,7 +6,7 @@ ghost use Rattle.exh_cells.specs.PlacedFile.{placed_bytes};
 ghost use Rattle.exh_file.specs.Draft.{IsAnew, IsDraftLeft, IsDraftSaving, IsDraftedSo, IsGrown, IsSaving, bytes_as, bytes_in};
 ghost use Rattle.exh_file.specs.Opened.{AreWardsOf, in_file};
 ghost use Rattle.exh_file.specs.Placing.{IsPlacedSaving, IsPlacingOf, IsWardOrder, placed_file};
-ghost use Rattle.exh_file.specs.SaveFault.{CountsSaveFailures};
+ghost use Rattle.exh_file_faults.specs.SaveFault.{CountsSaveFailures};
 ghost use Rattle.exh_file.specs.Saved.{AreSound, AreUnchanged, failures_in};
 
 use crate::placed_saving::write_placed;

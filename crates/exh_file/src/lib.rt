@@ -2,28 +2,24 @@
 #![tactic(auto)]
 
 pub use draft::Draft;
-pub use draft_fault::DraftFault;
+pub use exh_file_faults::{DraftFault, OpenFault, SaveFault};
 pub use exh_format::{
     FileEntry, FileFault, FileParts, Header, LegalFile, LegalFileFault, ReadFileFault, read_file,
     read_legal_file,
 };
 pub use exh_versions::{AnyFile, FileForm, PlacedForm, read_any_file};
 pub use file_change::change_file;
-pub use open_fault::OpenFault;
 pub use opened::Opened;
 pub use opening::{open_form_over, open_over};
 pub use page_file::{open, open_form, write_file};
 pub use placing::{Form, Placing, Stamps};
 pub use reply::{is_done, reply_line};
-pub use save_fault::SaveFault;
 pub use saving::write_wards;
 pub use ward_change::{CHANGER, change_ward};
 
 mod draft;
-mod draft_fault;
 mod file_change;
 mod header;
-mod open_fault;
 mod opened;
 mod opening;
 mod page_file;
@@ -31,7 +27,6 @@ mod placed_saving;
 mod placing;
 mod placing_making;
 mod reply;
-mod save_fault;
 mod saving;
 mod ward_change;
 mod ward_lows;

@@ -8,7 +8,7 @@ ghost use Rattle.exh_format.specs.Reading.{AreBytes, IsAll};
 ghost use Rattle.exh_legal.specs.ReasonLaws.{IsLegalFile};
 ghost use Rattle.exh_format.specs.LegalFile.{parts_in, ward_tables};
 ghost use Rattle.exh_versions.specs.LegalBytes.{IsLegalBytes};
-ghost use Rattle.exh_file.specs.OpenFault.{HasCounted, HasCountedOne, IsCounted, IsOtherOpening};
+ghost use Rattle.exh_file_faults.specs.OpenFault.{HasCounted, HasCountedOne, IsCounted, IsOtherOpening};
 ghost use Rattle.exh_file.specs.Opening.{AreLegalWards, AreOpened, IsLegalWard, IsOpenFaultOf, IsOpenedAs, IsOpenedFile, IsOpenedWard};
 
 use crate::{OpenFault, Opened};

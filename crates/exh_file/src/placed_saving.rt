@@ -12,7 +12,7 @@ ghost use Rattle.exh_placing.specs.Writing.{opening, place_bytes};
 ghost use Rattle.exh_stores.specs.PageStore.{IfPage};
 ghost use Rattle.exh_file.specs.Opened.{AreWardsOf, in_file};
 ghost use Rattle.exh_file.specs.Placing.{IsPlacedSaving, IsPlacingOf, ordered_pages, own_pages, placed_file, stamped_header};
-ghost use Rattle.exh_file.specs.SaveFault.{CountsSaveFailures};
+ghost use Rattle.exh_file_faults.specs.SaveFault.{CountsSaveFailures};
 ghost use Rattle.exh_file.specs.Saved.{AreSound, AreUnchanged, HasCaps, failures_in, pages_of_all};
 
 use crate::SaveFault;

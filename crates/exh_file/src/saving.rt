@@ -16,7 +16,7 @@ ghost use Rattle.exh_format.specs.declared.header.TheConstants.{COUNTS_LEN};
 ghost use Rattle.exh_ward.specs.WardState.{IsUnchanged};
 ghost use Rattle.exh_file.specs.Opened.{AreWardsOf, in_file};
 ghost use Rattle.exh_file.specs.Reopened.{IsKept, IsWrittenAgain};
-ghost use Rattle.exh_file.specs.SaveFault.{CountsSaveFailures};
+ghost use Rattle.exh_file_faults.specs.SaveFault.{CountsSaveFailures};
 ghost use Rattle.exh_file.specs.Saved.{AreInOrder, AreShort, AreUnchanged, HasCaps, entries_of_all, failures_in, file_entry, written_file, file_with, pages_of_all};
 
 use crate::SaveFault;

@@ -1,13 +1,13 @@
 //! Reading without a lock: what is read is one state of a file, or it is read again.
 
 use crate::{Refused, recover_at};
-use exh_system::{Begun, InPlaceFault, WAIT, begin_reading, open_regular, pause_after};
+use exh_system::{Begun, InPlaceFault, begin_reading, open_regular, pause_after};
 use std::fs::File;
 use std::thread::sleep;
 use std::time::{Duration, Instant};
 
-// As often as a pause of two milliseconds fits into the wait.
-const TURNS: u64 = 500 * WAIT;
+// How many of the least pauses, of two milliseconds, fit into a second.
+const PAUSES: u64 = 500;
 
 /// What is read of an open file, and may be read of it again.
 pub trait Reading {
@@ -19,8 +19,8 @@ pub trait Reading {
 }
 
 /// Reads the file of a path so that all that is read is one state of it: where it is of version 3, its stamp is looked at
-/// and then its log looked for, before and, in the other order, behind the reading. Else it is read again, for some
-/// seconds. A change that was cut off is recovered, if nobody is at work on the file.
+/// and then its log looked for, before and, in the other order, behind the reading. Else it is read again: once at once, and
+/// for so many seconds. A change that was cut off is recovered, if nobody is at work on the file.
 ///
 /// `System`: the file isn't opened, as one that isn't regular, or the system doesn't say what is there. `Restless`: it was
 /// changed all the while. Others: what was cut off isn't recovered.
@@ -28,9 +28,10 @@ pub fn read_one_state<R: Reading>(
     rt: &HostRuntime,
     path: &str,
     reading: &mut R,
+    seconds: u64,
 ) -> Result<R::Found, Refused> {
     let start = Instant::now(rt)?;
-    for _ in 0..TURNS {
+    for turn in 0..turns_within(seconds) {
         let file = open_regular(rt, path)?;
         match begin_reading(rt, path, &file)? {
             Begun::Replaced => return Ok(reading.read(&file)),
@@ -42,14 +43,21 @@ pub fn read_one_state<R: Reading>(
             }
             Begun::Unsettled => {}
         }
+        recover_left(rt, path, file)?;
         let passed = start.elapsed(rt)?;
-        if passed >= Duration::from_secs(WAIT) {
+        if turn > 0 && passed >= Duration::from_secs(seconds) {
             break;
         }
-        recover_left(rt, path, file)?;
-        sleep(rt, pause_after(passed));
+        if turn > 0 {
+            sleep(rt, pause_after(passed));
+        }
     }
     Err(Refused::Unfit(InPlaceFault::Restless))
+}
+
+// How often a file is read at most: twice, and again behind each pause that fits into so many seconds.
+fn turns_within(seconds: u64) -> u64 {
+    seconds.saturating_mul(PAUSES).saturating_add(2)
 }
 
 // Recovers the file of a path, where nobody has its writers' lock.

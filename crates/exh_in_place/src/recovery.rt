@@ -3,7 +3,7 @@
 use crate::Refused;
 use crate::system_files::{close, opened, options, own_stamp};
 use exh_paged::recover_files;
-use exh_system::{PageLog, WAIT, front_of, is_at, lock_soon, open_regular, see_fit};
+use exh_system::{PageLog, front_of, is_at, lock_soon, open_regular, see_fit};
 use sqlite_std_file::Wary;
 use std::fs;
 use std::fs::File;
@@ -27,15 +27,16 @@ pub fn recover_at(rt: &HostRuntime, path: &str, file: &File) -> Result<(), Refus
 }
 
 /// Recovers what stands at a path that is to be replaced, where it is a page file of version 3 beside which a log was left.
+/// For its lock it waits so many seconds.
 ///
 /// Errors: as of `change_at`.
-pub fn settle_before(rt: &HostRuntime, path: &str) -> Result<(), Refused> {
+pub fn settle_before(rt: &HostRuntime, path: &str, seconds: u64) -> Result<(), Refused> {
     let Ok(file) = open_regular(rt, path) else {
         return Ok(());
     };
     if front_of(&file)?.is_none() {
         return Ok(());
     }
-    lock_soon(rt, &file, WAIT)?;
+    lock_soon(rt, &file, seconds)?;
     recover_at(rt, path, &file)
 }

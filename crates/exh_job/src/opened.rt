@@ -13,7 +13,7 @@ use exh_in_place::hold_still;
 use exh_notes::ReasonReader;
 use exh_path::{DiskFault, Lock, OpenedFile, SystemDisk, open_above};
 use exh_stream::{ClearingWriter, MeteredReader, Output};
-use exh_system::{Reason, tell_reason, with_reason};
+use exh_system::{Reason, WAIT, tell_reason, with_reason};
 use std::cell::Cell;
 use std::fs::File;
 use std::io;
@@ -134,7 +134,7 @@ fn is_held_still(rt: &HostRuntime, path: &str, opened: io::Result<&File>) -> Res
     let Ok(file) = opened else {
         return Ok(false);
     };
-    match hold_still(rt, path, file) {
+    match hold_still(rt, path, file, WAIT) {
         Ok(is_held) => Ok(is_held),
         Err(refused) => Err(refuse_unread(rt, path, refused)),
     }

@@ -14,7 +14,7 @@ use exh_frames::FileStore;
 use exh_in_place::{Refused, save_in_place, settle_before};
 use exh_path::{DiskFault, OpenedFile, SystemDisk, look_at, save_at};
 use exh_stream::Output;
-use exh_system::{InPlaceFault, above_limit};
+use exh_system::{InPlaceFault, WAIT, above_limit};
 use std::{fs, io};
 
 /// Says on standard error why a path can't be saved to, where that can be told before the run.
@@ -64,7 +64,7 @@ fn save_over(
 ) -> Status
     ensures { (result ≡ Done) ⊎ (result ≡ Ended) }
 {
-    match save_in_place(rt, path, held.seen.opened(), form.stamp, draft) {
+    match save_in_place(rt, path, held.seen.opened(), form.stamp, draft, WAIT) {
         Ok(()) => Status::Done,
         Err(refused) => refuse_in_place(rt, path, refused),
     }
@@ -139,7 +139,7 @@ pub(crate) fn save_draft(
 ) -> Status
     ensures { (result ≡ Done) ⊎ (result ≡ Ended) }
 {
-    if let Err(refused) = settle_before(rt, path) {
+    if let Err(refused) = settle_before(rt, path, WAIT) {
         return refuse_in_place(rt, path, refused);
     }
     let meter = saving_meter(rt);

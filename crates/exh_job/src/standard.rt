@@ -22,7 +22,7 @@ use exh_notes::{Escaped, ReasonReader, ReasonWriter};
 use exh_page::Key;
 use exh_path::open_above;
 use exh_stream::{ClearingWriter, MeteredReader, Output};
-use exh_system::{InPlaceFault, tell_unprinted};
+use exh_system::{InPlaceFault, WAIT, tell_unprinted};
 use std::cell::Cell;
 use std::io;
 
@@ -31,7 +31,7 @@ pub fn tell_path(rt: &HostRuntime, topic: Topic, path: &str) -> Status {
     let reason = Cell::new(None);
     let opened = with_reason(open_above(rt, path), &reason);
     if let Ok(file) = &opened {
-        if let Err(refused) = hold_still(rt, path, file) {
+        if let Err(refused) = hold_still(rt, path, file, WAIT) {
             return refuse_unread(rt, path, refused);
         }
     }
@@ -52,7 +52,7 @@ pub fn get(rt: &HostRuntime, path: &str, key: &Key) -> Status {
         key,
         reason: &reason,
     };
-    let status = match read_one_state(rt, path, &mut reading) {
+    let status = match read_one_state(rt, path, &mut reading, WAIT) {
         Ok(told) => told.print(rt),
         Err(refused) => refuse_unread(rt, path, refused),
     };
@@ -86,7 +86,7 @@ pub fn change<'w>(
     ensures saves { SavesAt save.entry result.0 }
     ensures named { IfSome result.1 (λ held. IsNamed path.now held.seen) }
 {
-    match change_at(rt, path, call) {
+    match change_at(rt, path, call, WAIT) {
         Ok(Some(reply)) => (Ending::Over(tell_reply(rt, path, &reply)), None),
         Ok(None) => change_whole(rt, path, call, save),
         Err(refused) => (Ending::Over(refuse_change(rt, path, refused)), None),

@@ -15,9 +15,10 @@ put_said New = put.New
 put_said (Was value) = put.Was value
 put_said reply = put.Full
 
--- of a put of a key that has no value
+-- of a put of a key that has no value, or of a get in its place
 abbrev pub put_new_said : Reply → PutNew
 put_new_said New = put_new.New
+put_new_said (Is value) = put_new.Is value
 put_new_said (Was value) = put_new.Is value
 put_new_said reply = put_new.Full
 

@@ -9,14 +9,11 @@ use Rattle.exh_map.specs.declared.store_error.StoreError.TheVariants.{EmptyKey, 
 
 -- the bytes are no key, and the fault says why
 abbrev pub IsKeyFault : List ℕ → StoreError → Type 0
-IsKeyFault key EmptyKey = length key ≡ 0
-IsKeyFault key (KeyTooLong len) = (len ≡ length key) × (KEY_LIMIT < length key)
-IsKeyFault key fault = ⊥
+IsKeyFault key fault = ((fault ≡ EmptyKey) × (length key ≡ 0)) ⊎ ((fault ≡ KeyTooLong (length key)) × (KEY_LIMIT < length key))
 
 -- they are no value
 abbrev pub IsValueFault : List ℕ → StoreError → Type 0
-IsValueFault value (ValueTooLong len) = (len ≡ length value) × (VALUE_LIMIT < length value)
-IsValueFault value fault = ⊥
+IsValueFault value fault = (fault ≡ ValueTooLong (length value)) × (VALUE_LIMIT < length value)
 
 -- a ward refused
 abbrev pub IsWardFault : StoreError → Type 0

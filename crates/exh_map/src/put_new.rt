@@ -16,13 +16,13 @@ pub enum PutNew {
 }
 
 impl PutNew {
-    /// What the reply to a put says, where the key had no value.
+    /// What the reply says to a put that is made where the key has no value, or to the get of it that is made else.
     pub fn of(reply: Reply) -> PutNew
         ensures { result ≡ put_new_said reply }
     {
         match reply {
             Reply::New => PutNew::New,
-            Reply::Was(value) => PutNew::Is(value),
+            Reply::Is(value) | Reply::Was(value) => PutNew::Is(value),
             _ => PutNew::Full,
         }
     }

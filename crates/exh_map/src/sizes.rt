@@ -1,6 +1,7 @@
 //! Keys and values of byte slices.
-ghost use Rattle.std.specs.Prelude.{◌≡◌, IfErr, IfOk};
+ghost use Rattle.std.specs.Prelude.{◌≡◌, IfErr, IfOk, OnOk};
 ghost use Rattle.exh_map.specs.CallFault.{IsKeyFault, IsValueFault};
+ghost use Rattle.exh_map.specs.Sizes.{IsKey, IsValue};
 
 use crate::StoreError;
 use exh_page::{Key, Value};
@@ -10,6 +11,7 @@ use exh_page::{Key, Value};
 /// `EmptyKey`: there are none. `KeyTooLong`: there are more than 64.
 pub fn key_of(bytes: &[u8]) -> Result<Key, StoreError>
     ensures bytes { IfOk result (λ key. key ≡ bytes.now) }
+    ensures sized { OnOk result (IsKey bytes.now) }
     ensures refused { IfErr result (IsKeyFault bytes.now) }
 {
     match Key::from_bytes(bytes) {
@@ -26,6 +28,7 @@ pub fn key_of(bytes: &[u8]) -> Result<Key, StoreError>
 /// `ValueTooLong`: there are more than 128.
 pub fn value_of(bytes: &[u8]) -> Result<Value, StoreError>
     ensures bytes { IfOk result (λ value. value ≡ bytes.now) }
+    ensures sized { OnOk result (IsValue bytes.now) }
     ensures refused { IfErr result (IsValueFault bytes.now) }
 {
     match Value::from_bytes(bytes) {

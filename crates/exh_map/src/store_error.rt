@@ -1,5 +1,6 @@
 ghost use Rattle.std.specs.Prelude.{◌≡◌};
 ghost use Rattle.exh_map.specs.CallFault.{fault_of};
+ghost use Rattle.exh_map.specs.Sizes.{IsOther};
 
 use exh_codec::ImageFault;
 use exh_direct::DirectFault;
@@ -103,7 +104,9 @@ pub enum StoreError {
 
 impl StoreError {
     /// Why no page file was opened, where reading failed for this reason, if it did.
-    pub fn of_opening(fault: OpenFault, reason: Option<io::Error>) -> StoreError {
+    pub fn of_opening(fault: OpenFault, reason: Option<io::Error>) -> StoreError
+        ensures { IsOther result }
+    {
         match fault {
             OpenFault::File(LegalFileFault::File(fault)) => StoreError::from(fault),
             OpenFault::File(LegalFileFault::Illegal(reason)) => StoreError::Illegal(reason),
@@ -114,7 +117,9 @@ impl StoreError {
     }
 
     /// Why a key's value wasn't found out, where reading failed for this reason, if it did.
-    pub fn of_finding(fault: DirectFault, reason: Option<io::Error>) -> StoreError {
+    pub fn of_finding(fault: DirectFault, reason: Option<io::Error>) -> StoreError
+        ensures { IsOther result }
+    {
         match fault {
             DirectFault::Read => StoreError::of_reading(reason),
             fault => StoreError::from(fault),
@@ -122,7 +127,9 @@ impl StoreError {
     }
 
     // That reading failed.
-    fn of_reading(reason: Option<io::Error>) -> StoreError {
+    fn of_reading(reason: Option<io::Error>) -> StoreError
+        ensures { IsOther result }
+    {
         match reason {
             Some(error) => StoreError::from(error),
             None => StoreError::Io(io::Error::from(ErrorKind::Other)),
@@ -131,18 +138,24 @@ impl StoreError {
 }
 
 impl From<AllocError> for StoreError {
+    ghost from_gives = { λ cause fault. IsOther fault };
+
     fn from(_error: AllocError) -> StoreError {
         StoreError::Memory
     }
 }
 
 impl<T: Drop> From<AllocFailed<T>> for StoreError {
+    ghost from_gives = { λ cause fault. IsOther fault };
+
     fn from(_error: AllocFailed<T>) -> StoreError {
         StoreError::Memory
     }
 }
 
 impl From<io::Error> for StoreError {
+    ghost from_gives = { λ cause fault. IsOther fault };
+
     fn from(error: io::Error) -> StoreError {
         match error.kind() {
             ErrorKind::OutOfMemory => StoreError::Memory,
@@ -163,6 +176,8 @@ impl From<WardFault> for StoreError {
 }
 
 impl From<SaveFault> for StoreError {
+    ghost from_gives = { λ cause fault. IsOther fault };
+
     fn from(fault: SaveFault) -> StoreError {
         match fault {
             SaveFault::Page => StoreError::OutOfReach,
@@ -172,6 +187,8 @@ impl From<SaveFault> for StoreError {
 }
 
 impl From<DraftFault> for StoreError {
+    ghost from_gives = { λ cause fault. IsOther fault };
+
     fn from(fault: DraftFault) -> StoreError {
         match fault {
             DraftFault::Places => StoreError::Changed,
@@ -182,6 +199,8 @@ impl From<DraftFault> for StoreError {
 }
 
 impl From<FileFault> for StoreError {
+    ghost from_gives = { λ cause fault. IsOther fault };
+
     fn from(fault: FileFault) -> StoreError {
         match fault {
             FileFault::Block { place, fault } => StoreError::Damaged {
@@ -197,6 +216,8 @@ impl From<FileFault> for StoreError {
 }
 
 impl From<DirectFault> for StoreError {
+    ghost from_gives = { λ cause fault. IsOther fault };
+
     fn from(fault: DirectFault) -> StoreError {
         match fault {
             DirectFault::File(fault) => StoreError::from(fault),
@@ -208,6 +229,8 @@ impl From<DirectFault> for StoreError {
 }
 
 impl From<InPlaceFault> for StoreError {
+    ghost from_gives = { λ cause fault. IsOther fault };
+
     fn from(fault: InPlaceFault) -> StoreError {
         match fault {
             InPlaceFault::Busy => StoreError::Busy,
@@ -222,6 +245,8 @@ impl From<InPlaceFault> for StoreError {
 }
 
 impl From<Refused> for StoreError {
+    ghost from_gives = { λ cause fault. IsOther fault };
+
     fn from(refused: Refused) -> StoreError {
         match refused {
             Refused::Unfit(fault) => StoreError::from(fault),
@@ -234,6 +259,8 @@ impl From<Refused> for StoreError {
 }
 
 impl From<DiskFault> for StoreError {
+    ghost from_gives = { λ cause fault. IsOther fault };
+
     fn from(fault: DiskFault) -> StoreError {
         match fault {
             DiskFault::Memory => StoreError::Memory,

@@ -10,7 +10,8 @@ use Rattle.exh_cells.specs.PlacedFile.{PlacedFile}
 use Rattle.exh_edits.specs.declared.block_edit.BlockEdit.{BlockEdit}
 use Rattle.exh_edits.specs.BlockEdits.{with_edits}
 use Rattle.exh_commit.specs.Change.{IsChanged, IsOldOrChanged, MayChange}
-use Rattle.exh_paged.specs.CallChange.{HasPairs, IsCallChange, IsCalled, IsOldOrCalled, IsReplied, MayCall}
+use Rattle.exh_change.specs.ChangeLaws.{map_then}
+use Rattle.exh_paged.specs.CallChange.{HasPairs, IsCallChange, IsCalled, IsMade, IsOldOrCalled, IsReplied, MayCall}
 
 pub each_known : (known : Option (List ℕ)) (P : List ℕ → Type 0) → ((bytes : List ℕ) → known ≡ Some bytes → P bytes) → IfSome known P
 each_known None P holds = tt
@@ -24,29 +25,32 @@ pub if_err_more : {T E : Type 0} (result : Result T E) (P Q : E → Type 0) → 
 if_err_more (Ok x) P Q more holds = tt
 if_err_more (Err error) P Q more holds = more error holds
 
-module _ (truthful : Bool) (file : PlacedFile) (tables : List TableMap) (call : Call) (stamp : ℕ) (old : List ℕ) (bytes_are : AreBytes old) (legal : IsLegalPlacedFile file tables old) where
-  pub called : (reply : Reply) (new : List ℕ) → IsChanged truthful (MayCall call stamp) reply old new → IsCalled truthful file call old new
+-- the change of a legal page file by a call is what the call makes
+pub call_made : (file : PlacedFile) (tables : List TableMap) (call : Call) (stamp : ℕ) (old : List ℕ) → AreBytes old → IsLegalPlacedFile file tables old → (reply : Reply) (edits : List BlockEdit) → MayCall call stamp old reply edits → IsMade file old call reply edits
+call_made file tables call stamp old bytes_are legal reply edits may =
+    let made : IsCallChange file old call stamp reply edits = may file tables bytes_are legal in
+    let same : with_edits made.changed.edits.items old ≡ with_edits edits old = ap (λ (edits : List BlockEdit). with_edits edits old) made.edits_are in
+    record {
+      pairs = record { file = made.is.new; tables = made.is.tables; legal = subst (λ (bytes : List ℕ). IsLegalPlacedFile made.is.new made.is.tables bytes) same made.is.legal; is = made.is.map_is };
+      reply_is = sym made.reply_is ∙ made.is.reply;
+    }
+
+-- what is left by a changer whose edits are what a call makes
+module _ (truthful : Bool) (file : PlacedFile) (call : Call) (old : List ℕ) (Allows : List ℕ → Reply → List BlockEdit → Type 0) (makes : (reply : Reply) (edits : List BlockEdit) → Allows old reply edits → IsMade file old call reply edits) where
+  pub called : (reply : Reply) (new : List ℕ) → IsChanged truthful Allows reply old new → IsCalled truthful file call old new
   called reply new changed = record {
     edits = changed.edits;
     is = changed.is;
-    pairs = λ truth.
-        let made : IsCallChange file old call stamp reply changed.edits = changed.allowed truth file tables bytes_are legal in
-        let same : with_edits made.changed.edits.items old ≡ new = ap (λ (edits : List BlockEdit). with_edits edits old) made.edits_are ∙ sym changed.is in
-        record { file = made.is.new; tables = made.is.tables; legal = subst (λ (bytes : List ℕ). IsLegalPlacedFile made.is.new made.is.tables bytes) same made.is.legal; is = made.is.map_is };
+    pairs = λ truth. subst (λ (bytes : List ℕ). HasPairs bytes (map_then file call)) (sym changed.is) (makes reply changed.edits (changed.allowed truth)).pairs;
   }
 
-  pub replied : (reply : Reply) (new : List ℕ) → IsChanged truthful (MayCall call stamp) reply old new → IsReplied truthful file call reply old new
-  replied reply new changed = record {
-    called = called reply new changed;
-    reply_is = λ truth.
-        let made : IsCallChange file old call stamp reply changed.edits = changed.allowed truth file tables bytes_are legal in
-        sym made.reply_is ∙ made.is.reply;
-  }
+  pub replied : (reply : Reply) (new : List ℕ) → IsChanged truthful Allows reply old new → IsReplied truthful file call reply old new
+  replied reply new changed = record { called = called reply new changed; reply_is = λ truth. (makes reply changed.edits (changed.allowed truth)).reply_is }
 
-  pub may_called : (new : List ℕ) → MayChange truthful (MayCall call stamp) old new → IsCalled truthful file call old new
+  pub may_called : (new : List ℕ) → MayChange truthful Allows old new → IsCalled truthful file call old new
   may_called new made = called made.0 new made.1
 
-  pub old_or_called : (new : List ℕ) → IsOldOrChanged truthful (MayCall call stamp) old new → IsOldOrCalled truthful file call old new
+  pub old_or_called : (new : List ℕ) → IsOldOrChanged truthful Allows old new → IsOldOrCalled truthful file call old new
   old_or_called new = elim [
     | inl same ↦ inl same
     | inr made ↦ inr (may_called new made)

@@ -1,3 +1,4 @@
 pub mod FilesLemmas
 pub mod DraftLemmas
 pub mod CallLemmas
+pub mod PutLemmas

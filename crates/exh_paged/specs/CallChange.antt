@@ -35,6 +35,11 @@ pub record IsCallChange (file : PlacedFile) (bytes : List ℕ) (call : Call) (st
 abbrev pub MayCall : Call → ℕ → List ℕ → Reply → List BlockEdit → Type 0
 MayCall call stamp bytes reply edits = (file : PlacedFile) (tables : List TableMap) → AreBytes bytes → IsLegalPlacedFile file tables bytes → IsCallChange file bytes call stamp reply edits
 
+-- the reply is the call's, and the edits make bytes with the pairs that it leaves
+pub record IsMade (file : PlacedFile) (bytes : List ℕ) (call : Call) (reply : Reply) (edits : List BlockEdit) : Type 0 where
+  pub pairs : HasPairs (with_edits edits bytes) (map_then file call)
+  pub reply_is : reply ≡ reply_in file call
+
 -- ---- what is left
 
 -- the bytes after edits, with the pairs that the call leaves; of a disk that may answer wrongly it isn't known which edits were made

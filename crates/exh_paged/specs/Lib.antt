@@ -3,3 +3,4 @@ pub mod FilesFault
 pub mod Saving
 pub mod SaveFilesFault
 pub mod CallChange
+pub mod PutIf

@@ -3,7 +3,6 @@ ghost use Rattle.std.specs.Prelude.{◌≡◌, ℕ, List, IfErr, IfOk, OnOk};
 ghost use Rattle.exh_commit.specs.FilePages.{Leaves};
 ghost use Rattle.exh_commit.specs.PagedFile.{IsHonest, IsReady, bytes_in, files_in, known_in, state_in};
 ghost use Rattle.exh_file.specs.Draft.{IsDraftSaving, bytes_in as draft_bytes};
-ghost use Rattle.exh_file.specs.declared.save_fault.SaveFault.TheVariants.{Write};
 ghost use Rattle.exh_paged.specs.SaveFilesFault.{IsCause, IsSaved};
 ghost use Rattle.exh_paged.specs.Saving.{AreEditsToDraft};
 ghost use Rattle.exh_paged.specs.declared.save_files_fault.SaveFilesFault.TheVariants.{Content, Draft as Unwritten};
@@ -17,7 +16,7 @@ use std::alloc::Global;
 
 // Why nothing was made of a draft that wasn't written: where the writer failed, it tells why.
 fn cause_of(fault: SaveFault, made: Result<Vec<BlockEdit>, DifferingFault>) -> SaveFilesFault
-    ensures writer { IfErr made (λ cause. fault ≡ Write → result ≡ Content cause) }
+    ensures writer { IfErr made (λ cause. fault ≡ SaveFault.Write → result ≡ Content cause) }
     ensures draft { OnOk made (result ≡ Unwritten fault) }
     ensures refused { (stamp : ℕ) (bytes : List ℕ) → IsCause stamp bytes result }
     ensures unsaved { IsSaved result → ⊥ }

@@ -1,1 +1,3 @@
 pub mod CommitLemmas
+pub mod SizeLemmas
+pub mod StoreLemmas

@@ -1,2 +1,3 @@
--- commits of a map
+-- commits of a map, and stores that are opened
 pub mod Commit
+pub mod Store

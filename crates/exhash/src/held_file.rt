@@ -12,7 +12,7 @@ use exh_in_place::{recover_at, save_in_place};
 use exh_map::{FileMap, StoreError};
 use exh_path::{OpenedFile, SystemDisk, SystemFile, open_above};
 use exh_saving::Saved;
-use exh_system::{above_limit, draw_stamp, front_of, is_at, lock_soon};
+use exh_system::{WAIT, above_limit, draw_stamp, front_of, is_at, lock_soon};
 use std::fs::File;
 use std::io::ErrorKind;
 use std::{fs, io};
@@ -149,7 +149,7 @@ fn save_placed(
         before: form.stamp,
     };
     let draft = drafted(rt.alloc(), copy, &form.lows, stamps)?;
-    save_in_place(rt, path, seen.opened(), form.stamp, draft)?;
+    save_in_place(rt, path, seen.opened(), form.stamp, draft, WAIT)?;
     form.lows = lows;
     form.stamp = stamps.own;
     Ok(())

@@ -1,8 +1,8 @@
 //! A get as a reading of an open file, which may be made again.
+ghost use Rattle.exh_walked.specs.AnyAnswer.{IsOfLegal};
 
 use exh_direct::{Blocks, DirectFault};
 use exh_in_place::Reading;
-use exh_map::StoreError;
 use exh_page::{Key, Value};
 use exh_system::{FileBlocks, Reason, with_reason};
 use exh_walked::find_any;
@@ -17,13 +17,24 @@ pub(crate) struct KeyReading<'k> {
     pub(crate) reason: &'k Reason,
 }
 
+impl KeyReading<'_> {
+    // The value of the key in the blocks of a page file, whatever they are of: of a legal file its map's.
+    //
+    // Errors: as of `find_any`.
+    fn find_in<B: Blocks>(&self, blocks: &mut B) -> Result<Option<Value>, DirectFault>
+        ensures legal { IsOfLegal (B.known blocks.old) self.now.key.now (B.reads blocks.old) (B.reads blocks.new) result }
+    {
+        find_any(self.alloc, blocks, self.key)
+    }
+}
+
 impl Reading for KeyReading<'_> {
     type Found = Result<Option<Value>, DirectFault>;
 
     fn read(&mut self, file: &File) -> Result<Option<Value>, DirectFault> {
         self.reason.set(None);
         match with_reason(FileBlocks::new(file, self.reason), self.reason) {
-            Ok(mut blocks) => find_any(self.alloc, &mut blocks, self.key),
+            Ok(mut blocks) => self.find_in(&mut blocks),
             Err(_) => Err(DirectFault::Read),
         }
     }

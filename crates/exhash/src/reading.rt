@@ -1,11 +1,13 @@
 //! Page files that are read whole.
+ghost use Rattle.std.specs.Prelude.{IfErr};
+ghost use Rattle.exh_map.specs.Sizes.{IsOther};
 
 use exh_file::{FileForm, Opened, open_form};
 use exh_frames::FileStore;
-use exh_in_place::hold_still;
+use exh_in_place::{Reading, Refused, hold_still, read_one_state};
 use exh_map::StoreError;
 use exh_notes::ReasonReader;
-use exh_system::open_regular;
+use exh_system::{InPlaceFault, open_regular};
 use std::alloc::Global;
 use std::cell::Cell;
 use std::fs::File;
@@ -14,7 +16,9 @@ use std::io::ErrorKind;
 /// Opens the file of a path.
 ///
 /// `Absent`: nothing is there, or an empty file. `Io`: it isn't opened, as one that isn't regular.
-pub(crate) fn opened_at(rt: &HostRuntime, path: &str) -> Result<File, StoreError> {
+pub(crate) fn opened_at(rt: &HostRuntime, path: &str) -> Result<File, StoreError>
+    ensures { IfErr result IsOther }
+{
     match open_regular(rt, path) {
         Ok(file) if file.metadata()?.len() == 0 => Err(StoreError::Absent),
         Ok(file) => Ok(file),
@@ -37,12 +41,54 @@ pub(crate) fn read_whole(
     }
 }
 
-/// The wards of one state of the file of a path, from which writers are kept while it is read.
+/// Why the file of a path isn't read: that it isn't there, or has no bytes; else this cause.
+pub(crate) fn unread(rt: &HostRuntime, path: &str, cause: StoreError) -> StoreError
+    ensures { IsOther cause → IsOther result }
+{
+    match opened_at(rt, path) {
+        Err(StoreError::Absent) => StoreError::Absent,
+        _ => cause,
+    }
+}
+
+// A reading of a whole file, which may be made again.
+#[derive(Drop)]
+struct WholeReading {
+    alloc: Global,
+}
+
+impl Reading for WholeReading {
+    type Found = Result<(Opened<FileStore>, FileForm), StoreError>;
+
+    fn read(&mut self, file: &File) -> Result<(Opened<FileStore>, FileForm), StoreError> {
+        read_whole(self.alloc, file)
+    }
+}
+
+/// The wards of one state of the file of a path. Writers are kept from it while it is read, unless one has its lock: then it
+/// is read beside, again and again, for so many seconds.
 ///
 /// Errors: it isn't opened or read, as they say.
-pub(crate) fn read_still(rt: &HostRuntime, path: &str) -> Result<Opened<FileStore>, StoreError> {
+pub(crate) fn read_still(
+    rt: &HostRuntime,
+    path: &str,
+    seconds: u64,
+) -> Result<Opened<FileStore>, StoreError> {
     let file = opened_at(rt, path)?;
-    hold_still(rt, path, &file)?;
-    let (opened, _form) = read_whole(rt.alloc(), &file)?;
+    let (opened, _form) = match hold_still(rt, path, &file, 0) {
+        Ok(_) => read_whole(rt.alloc(), &file)?,
+        Err(Refused::Unfit(InPlaceFault::Busy)) => read_beside(rt, path, seconds)?,
+        Err(refused) => return Err(StoreError::from(refused)),
+    };
     Ok(opened)
+}
+
+// Reads one state of a file whose lock another process has.
+fn read_beside(
+    rt: &HostRuntime,
+    path: &str,
+    seconds: u64,
+) -> Result<(Opened<FileStore>, FileForm), StoreError> {
+    let mut reading = WholeReading { alloc: rt.alloc() };
+    read_one_state(rt, path, &mut reading, seconds)?
 }

@@ -1,5 +1,5 @@
 //! A page file that is opened whole, and worked on in memory.
-ghost use Rattle.std.specs.Prelude.{◌≡◌, [], ◌∷◌, IfErr, IfOk, OnErr, OnOk, length};
+ghost use Rattle.std.specs.Prelude.{◌≡◌, [], ◌∷◌, Err, IfErr, IfOk, IsTrue, OnErr, OnOk, length};
 ghost use Rattle.std.specs.FinMap.{from_entries, len};
 ghost use Rattle.exh_file.specs.FileChange.{HasMap};
 ghost use Rattle.exh_file.specs.Opened.{settings_in};
@@ -7,6 +7,9 @@ ghost use Rattle.exh_page.specs.KeyMap.{KeyMap};
 ghost use Rattle.exh_map.specs.CallFault.{IsCallFault};
 ghost use Rattle.exh_map.specs.FileMap.{IsGot, IsPut, IsPutNew, IsRemoved, IsReplaced, IsSwap, KeepsMap};
 ghost use Rattle.exh_map.specs.Pairs.{AreOnce, pairs_in};
+ghost use Rattle.exh_map.specs.Sizes.{IsSized};
+ghost use Rattle.exh_map.specs.declared.store_error.StoreError.TheVariants.{ReadOnly};
+ghost use Rattle.exhash.specs.Store.{IsHeld, IsNew, IsReadOnly};
 
 use crate::held_file::HeldFile;
 use crate::new_file::make;
@@ -30,15 +33,32 @@ pub struct Store<'r> {
 impl<'r> Store<'r> {
     /// Makes a page file of version 3 at a path, and opens it.
     ///
-    /// `Exists`: something is there already that isn't empty. `Settings`: the settings are no file's. Others: it isn't made
-    /// or opened, as they say. Then an empty file may be left.
+    /// `Exists`: something is there already that isn't empty, or another process changed the file before it was opened.
+    /// `Settings`: the settings are no file's. Others: it isn't made or opened, as they say. Then an empty file may be left.
     pub fn create(
         rt: &'r HostRuntime,
         path: &str,
         settings: Settings,
-    ) -> Result<Store<'r>, StoreError> {
+    ) -> Result<Store<'r>, StoreError>
+        ensures new { IfOk result (λ store. IsNew settings store.map) }
+        ensures held { IfOk result (λ store. IsHeld store.file) }
+    {
         make(rt, path, settings)?;
-        Store::open(rt, path)
+        let mut store = Store::open(rt, path)?;
+        if store.is_new(settings)? {
+            Ok(store)
+        } else {
+            Err(StoreError::Exists)
+        }
+    }
+
+    // Whether it has these settings, and no pairs.
+    fn is_new(&mut self, settings: Settings) -> Result<bool, StoreError>
+        ensures new { IfOk result (λ is. IsTrue is → IsNew settings self.new.map) }
+        ensures file { self.new.file ≡ self.old.file }
+    {
+        let is_empty = self.pairs()?.len() == 0;
+        Ok(is_empty && self.settings().are_same(&settings))
     }
 
     /// Opens the page file of a path, of any version, and holds its writers' lock until the store is let go. It waits five
@@ -46,7 +66,9 @@ impl<'r> Store<'r> {
     ///
     /// `Absent`: nothing is there, or an empty file. `Busy`: another process has the lock. Others: it isn't opened, as they
     /// say.
-    pub fn open(rt: &'r HostRuntime, path: &str) -> Result<Store<'r>, StoreError> {
+    pub fn open(rt: &'r HostRuntime, path: &str) -> Result<Store<'r>, StoreError>
+        ensures held { IfOk result (λ store. IsHeld store.file) }
+    {
         Store::open_within(rt, path, WAIT)
     }
 
@@ -55,7 +77,9 @@ impl<'r> Store<'r> {
         rt: &'r HostRuntime,
         path: &str,
         seconds: u64,
-    ) -> Result<Store<'r>, StoreError> {
+    ) -> Result<Store<'r>, StoreError>
+        ensures held { IfOk result (λ store. IsHeld store.file) }
+    {
         let (file, opened) = HeldFile::open(rt, path, seconds)?;
         Ok(Store {
             rt,
@@ -73,7 +97,9 @@ impl<'r> Store<'r> {
         rt: &'r HostRuntime,
         path: &str,
         settings: Settings,
-    ) -> Result<Store<'r>, StoreError> {
+    ) -> Result<Store<'r>, StoreError>
+        ensures held { IfOk result (λ store. IsHeld store.file) }
+    {
         match Store::open(rt, path) {
             Err(StoreError::Absent) => match Store::create(rt, path, settings) {
                 Err(StoreError::Exists) => Store::open(rt, path),
@@ -84,11 +110,25 @@ impl<'r> Store<'r> {
     }
 
     /// Opens one state of the page file of a path to be read, also beside others that change it, and holds nothing of it.
-    /// What is changed of the store isn't committed.
+    /// What is changed of the store isn't committed. It reads for five seconds while others are changing the file.
     ///
-    /// Errors: as of `open`.
-    pub fn open_read(rt: &'r HostRuntime, path: &str) -> Result<Store<'r>, StoreError> {
-        let opened = read_still(rt, path)?;
+    /// `Absent`: nothing is there, or an empty file. `Changed`: it was being changed all the while. Others: it isn't opened, as
+    /// they say.
+    pub fn open_read(rt: &'r HostRuntime, path: &str) -> Result<Store<'r>, StoreError>
+        ensures read { IfOk result (λ store. IsReadOnly store.file) }
+    {
+        Store::open_read_within(rt, path, WAIT)
+    }
+
+    /// The same, and reads for so many seconds.
+    pub fn open_read_within(
+        rt: &'r HostRuntime,
+        path: &str,
+        seconds: u64,
+    ) -> Result<Store<'r>, StoreError>
+        ensures read { IfOk result (λ store. IsReadOnly store.file) }
+    {
+        let opened = read_still(rt, path, seconds)?;
         Ok(Store {
             rt,
             map: FileMap::new(opened),
@@ -234,6 +274,7 @@ impl<'r> Store<'r> {
     /// but this store commits no more. Others: nothing was saved, as they say. The pairs of the store are as before in each
     /// case.
     pub fn commit(&mut self) -> Result<(), StoreError>
+        ensures read { IsReadOnly self.old.file → result ≡ Err ReadOnly }
         ensures kept { KeepsMap self.old.map self.new.map }
         ensures settings { settings_in self.new.map ≡ settings_in self.old.map }
     {
@@ -251,7 +292,9 @@ impl<'r> Store<'r> {
     /// Commits, and lets the file go.
     ///
     /// Errors: as of `commit`. What wasn't saved is lost then.
-    pub fn close(self) -> Result<(), StoreError> {
+    pub fn close(self) -> Result<(), StoreError>
+        ensures read { IsReadOnly self.file → result ≡ Err ReadOnly }
+    {
         let mut store = self;
         store.commit()
     }

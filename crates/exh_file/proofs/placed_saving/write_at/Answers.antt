@@ -10,7 +10,7 @@ use Rattle.exh_stream.specs.OutputLemmas.{OnErr-from, TakesBeginning-none}
 use Rattle.exh_format.specs.PageFile.{page_block}
 use Rattle.exh_placing.specs.Writing.{opening}
 use Rattle.exh_ward.specs.WardState.{WardState}
-use Rattle.exh_file.specs.SaveFault.{CountsSaveFailures}
+use Rattle.exh_file_faults.specs.SaveFault.{CountsSaveFailures}
 use Rattle.exh_file.specs.Saved.{AreUnchanged, failures_in}
 use Rattle.exh_file.specs.LeftLemmas.{still_the_same}
 use Rattle.exh_file.proofs.Left.{counted_as, one_counted, one_touched}

@@ -8,7 +8,7 @@ use Rattle.exh_commit.specs.Change.{IsChanged, IsOldOrChanged, MayChange}
 use Rattle.exh_commit.specs.FilePages.{Leaves, LeavesAlone, StandsFor}
 use Rattle.exh_paged.specs.CallChange.{IsCalled, IsOldOrCalled, IsReplied, MayCall}
 use Rattle.exh_paged.specs.FilesFault.{IsSaved}
-use Rattle.exh_paged.proofs.CallLemmas.{if_err_more, if_ok_more, may_called, old_or_called, replied}
+use Rattle.exh_paged.proofs.CallLemmas.{call_made, if_err_more, if_ok_more, may_called, old_or_called, replied}
 use Rattle.exh_paged.proofs.FilesLemmas.{alone_when, leaves_when}
 use Rattle.exh_paged.proofs.call_change.call_files.Goals as goal
 
@@ -18,7 +18,7 @@ returns-clause-crash g c file tables old found bytes_are legal =
     let call = c.args.call.now in
     let back : _ × _ = (c.change_files.result.1.log, c.change_files.result.1.db) in
     leaves_when g.D.Disk back back (IsOldOrChanged T (MayCall call c.args.stamp) old) (IsOldOrCalled T file call old) refl
-    (λ clean. old_or_called T file tables call c.args.stamp old bytes_are legal) (c.change_files.ensures.crash old found)
+    (λ clean. old_or_called T file call old (MayCall call c.args.stamp) (call_made file tables call c.args.stamp old bytes_are legal)) (c.change_files.ensures.crash old found)
 
 pub returns-clause-ok : goal.returns-clause-ok
 returns-clause-ok g c =
@@ -31,7 +31,7 @@ returns-clause-ok g c =
     (λ reply. (file : PlacedFile) (tables : List TableMap) (old : List ℕ) → StandsFor seen old → AreBytes old → IsLegalPlacedFile file tables old → LeavesAlone g.D.Disk back (IsReplied T file call reply old))
     (λ reply alone file tables old found bytes_are legal.
     alone_when g.D.Disk back back (IsChanged T (MayCall call c.args.stamp) reply old) (IsReplied T file call reply old) refl
-    (λ clean. replied T file tables call c.args.stamp old bytes_are legal reply) (alone old found))
+    (λ clean. replied T file call old (MayCall call c.args.stamp) (call_made file tables call c.args.stamp old bytes_are legal) reply) (alone old found))
     c.change_files.ensures.ok
 
 pub returns-clause-saved : goal.returns-clause-saved
@@ -45,5 +45,5 @@ returns-clause-saved g c =
     (λ fault. IsSaved fault → (file : PlacedFile) (tables : List TableMap) (old : List ℕ) → StandsFor seen old → AreBytes old → IsLegalPlacedFile file tables old → Leaves g.D.Disk back (IsCalled T file call old))
     (λ fault leaves saved file tables old found bytes_are legal.
     leaves_when g.D.Disk back back (MayChange T (MayCall call c.args.stamp) old) (IsCalled T file call old) refl
-    (λ clean. may_called T file tables call c.args.stamp old bytes_are legal) (leaves saved old found))
+    (λ clean. may_called T file call old (MayCall call c.args.stamp) (call_made file tables call c.args.stamp old bytes_are legal)) (leaves saved old found))
     c.change_files.ensures.saved

@@ -6,8 +6,8 @@ use Rattle.exh_format.specs.declared.legal_file_fault.LegalFileFault.TheVariants
 use Rattle.exh_format.specs.LegalFileFault.{fault_place, fault_reason, legal_file_fault_number}
 use Rattle.exh_ward.specs.declared.ward_fault.WardFault.{WardFault}
 use Rattle.exh_ward.specs.declared.ward_fault.WardFault.TheVariants.{Page as OutOfReach}
-use Rattle.exh_file.specs.declared.open_fault.OpenFault.{OpenFault}
-use Rattle.exh_file.specs.declared.open_fault.OpenFault.TheVariants.{File, Page}
+use Rattle.exh_file_faults.specs.declared.open_fault.OpenFault.{OpenFault}
+use Rattle.exh_file_faults.specs.declared.open_fault.OpenFault.TheVariants.{File, Page}
 
 abbrev pub open_fault_number : OpenFault → ℕ
 open_fault_number (File fault) = legal_file_fault_number fault

@@ -2,8 +2,8 @@
 use Rattle.std.specs.Prelude.{◌≡◌, ℕ, ◌<◌, Result, Err}
 use Rattle.exh_ward.specs.declared.ward_fault.WardFault.{WardFault}
 use Rattle.exh_ward.specs.declared.ward_fault.WardFault.TheVariants.{Page as OutOfReach}
-use Rattle.exh_file.specs.declared.save_fault.SaveFault.{SaveFault}
-use Rattle.exh_file.specs.declared.save_fault.SaveFault.TheVariants.{Write, Page, Memory}
+use Rattle.exh_file_faults.specs.declared.save_fault.SaveFault.{SaveFault}
+use Rattle.exh_file_faults.specs.declared.save_fault.SaveFault.TheVariants.{Write, Page, Memory}
 
 abbrev pub save_fault_number : SaveFault → ℕ
 save_fault_number Write = 42

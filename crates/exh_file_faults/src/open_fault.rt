@@ -1,8 +1,8 @@
 ghost use Rattle.std.specs.Prelude.{◌≡◌};
 ghost use Rattle.exh_format.specs.declared.legal_file_fault.LegalFileFault.TheVariants.{Memory};
 ghost use Rattle.exh_ward.specs.WardFault.{IsStoreFault};
-ghost use Rattle.exh_file.specs.OpenFault.{open_fault_number, open_fault_of, open_fault_place, open_fault_reason};
-ghost use Rattle.exh_file.specs.declared.open_fault.OpenFault.TheVariants.{File};
+ghost use Rattle.exh_file_faults.specs.OpenFault.{open_fault_number, open_fault_of, open_fault_place, open_fault_reason};
+ghost use Rattle.exh_file_faults.specs.declared.open_fault.OpenFault.TheVariants.{File};
 
 use exh_format::LegalFileFault;
 use exh_ward::WardFault;
@@ -51,8 +51,8 @@ impl OpenFault {
         }
     }
 
-    // What a ward's refusal to be made of pages becomes.
-    pub(crate) fn of_ward(fault: WardFault) -> OpenFault
+    /// What a ward's refusal to be made of pages becomes: `Page` of a page out of reach, else want of memory.
+    pub fn of_ward(fault: WardFault) -> OpenFault
         requires { IsStoreFault fault }
         ensures { result ≡ open_fault_of fault }
     {

@@ -1,7 +1,7 @@
 ghost use Rattle.std.specs.Prelude.{◌≡◌};
 ghost use Rattle.exh_ward.specs.WardFault.{IsStoreFault};
-ghost use Rattle.exh_file.specs.SaveFault.{save_fault_of, save_fault_number};
-ghost use Rattle.exh_file.specs.declared.save_fault.SaveFault.TheVariants.{Memory, Write};
+ghost use Rattle.exh_file_faults.specs.SaveFault.{save_fault_of, save_fault_number};
+ghost use Rattle.exh_file_faults.specs.declared.save_fault.SaveFault.TheVariants.{Memory, Write};
 
 use exh_stream::WriteFault;
 use exh_ward::WardFault;
@@ -34,8 +34,8 @@ impl SaveFault {
         }
     }
 
-    // What a ward's refusal to give a page becomes.
-    pub(crate) fn of_ward(fault: WardFault) -> SaveFault
+    /// What a ward's refusal to give a page becomes: `Page` of a page out of reach, else `Memory`.
+    pub fn of_ward(fault: WardFault) -> SaveFault
         requires { IsStoreFault fault }
         ensures { result ≡ save_fault_of fault }
     {

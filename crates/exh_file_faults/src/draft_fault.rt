@@ -1,6 +1,6 @@
 ghost use Rattle.std.specs.Prelude.{◌≡◌};
-ghost use Rattle.exh_file.specs.Draft.{draft_fault_of};
-ghost use Rattle.exh_file.specs.declared.draft_fault.DraftFault.TheVariants.{Memory};
+ghost use Rattle.exh_file_faults.specs.DraftFault.{draft_fault_of};
+ghost use Rattle.exh_file_faults.specs.declared.draft_fault.DraftFault.TheVariants.{Memory};
 
 use crate::SaveFault;
 use std::alloc::AllocError;

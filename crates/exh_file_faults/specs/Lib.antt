@@ -1,0 +1,3 @@
+pub mod OpenFault
+pub mod SaveFault
+pub mod DraftFault

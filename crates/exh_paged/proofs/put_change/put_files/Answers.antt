@@ -1,0 +1,51 @@
+use Rattle.std.proofs.Common.{◌≡◌, ℕ, List, refl}
+use Rattle.sqlite_wal.specs.Files.{seen_image}
+use Rattle.exh_table.specs.Table.{TableMap}
+use Rattle.exh_format.specs.Reading.{AreBytes}
+use Rattle.exh_cells.specs.LegalPlaced.{IsLegalPlacedFile}
+use Rattle.exh_cells.specs.PlacedFile.{PlacedFile}
+use Rattle.exh_commit.specs.Change.{IsChanged, IsOldOrChanged, MayChange}
+use Rattle.exh_commit.specs.FilePages.{Leaves, LeavesAlone, StandsFor}
+use Rattle.exh_paged.specs.CallChange.{IsCalled, IsOldOrCalled, IsReplied}
+use Rattle.exh_paged.specs.FilesFault.{IsSaved}
+use Rattle.exh_paged.specs.PutIf.{MayPut, call_in}
+use Rattle.exh_paged.proofs.CallLemmas.{if_err_more, if_ok_more, may_called, old_or_called, replied}
+use Rattle.exh_paged.proofs.PutLemmas.{put_made}
+use Rattle.exh_paged.proofs.FilesLemmas.{alone_when, leaves_when}
+use Rattle.exh_paged.proofs.put_change.put_files.Goals as goal
+
+pub returns-clause-crash : goal.returns-clause-crash
+returns-clause-crash g c file tables old found bytes_are legal =
+    let T = g.D.Truthful.is_truthful in
+    let put = c.args.put.now in
+    let back : _ × _ = (c.change_files.result.1.log, c.change_files.result.1.db) in
+    leaves_when g.D.Disk back back (IsOldOrChanged T (MayPut put) old) (IsOldOrCalled T file (call_in file put) old) refl
+    (λ clean. old_or_called T file (call_in file put) old (MayPut put) (put_made file tables put old bytes_are legal)) (c.change_files.ensures.crash old found)
+
+pub returns-clause-ok : goal.returns-clause-ok
+returns-clause-ok g c =
+    let T = g.D.Truthful.is_truthful in
+    let put = c.args.put.now in
+    let seen = seen_image g.D.Disk c.args.files.log c.args.files.db in
+    let back : _ × _ = (c.change_files.result.1.log, c.change_files.result.1.db) in
+    if_ok_more c.change_files.result.0
+    (λ reply. (old : List ℕ) → StandsFor seen old → LeavesAlone g.D.Disk back (IsChanged T (MayPut put) reply old))
+    (λ reply. (file : PlacedFile) (tables : List TableMap) (old : List ℕ) → StandsFor seen old → AreBytes old → IsLegalPlacedFile file tables old → LeavesAlone g.D.Disk back (IsReplied T file (call_in file put) reply old))
+    (λ reply alone file tables old found bytes_are legal.
+    alone_when g.D.Disk back back (IsChanged T (MayPut put) reply old) (IsReplied T file (call_in file put) reply old) refl
+    (λ clean. replied T file (call_in file put) old (MayPut put) (put_made file tables put old bytes_are legal) reply) (alone old found))
+    c.change_files.ensures.ok
+
+pub returns-clause-saved : goal.returns-clause-saved
+returns-clause-saved g c =
+    let T = g.D.Truthful.is_truthful in
+    let put = c.args.put.now in
+    let seen = seen_image g.D.Disk c.args.files.log c.args.files.db in
+    let back : _ × _ = (c.change_files.result.1.log, c.change_files.result.1.db) in
+    if_err_more c.change_files.result.0
+    (λ fault. IsSaved fault → (old : List ℕ) → StandsFor seen old → Leaves g.D.Disk back (MayChange T (MayPut put) old))
+    (λ fault. IsSaved fault → (file : PlacedFile) (tables : List TableMap) (old : List ℕ) → StandsFor seen old → AreBytes old → IsLegalPlacedFile file tables old → Leaves g.D.Disk back (IsCalled T file (call_in file put) old))
+    (λ fault leaves saved file tables old found bytes_are legal.
+    leaves_when g.D.Disk back back (MayChange T (MayPut put) old) (IsCalled T file (call_in file put) old) refl
+    (λ clean. may_called T file (call_in file put) old (MayPut put) (put_made file tables put old bytes_are legal)) (leaves saved old found))
+    c.change_files.ensures.saved
