@@ -44,7 +44,11 @@ impl OpenFile {
     /// Answers calls as one change, and gives the file back: what they changed stands in the file.
     ///
     /// Errors: as of `change_at`.
-    pub fn calls(self, rt: &HostRuntime, calls: &[Call]) -> (Result<Vec<Reply>, Refused>, OpenFile) {
+    pub fn calls(
+        self,
+        rt: &HostRuntime,
+        calls: &[Call],
+    ) -> (Result<Vec<Reply>, Refused>, OpenFile) {
         if !self.file.is_ready() {
             return (Err(Refused::Change(ChangeFault::Open(Error::Closed))), self);
         }
