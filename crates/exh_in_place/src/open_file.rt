@@ -71,12 +71,12 @@ impl OpenFile {
 
     /// Lets the file go, and removes its log where the file alone has all.
     pub fn close(self, rt: &HostRuntime) {
-        close(
-            rt,
-            self.locked.whole.as_str(),
-            self.is_settled,
-            self.file.close(),
-        );
+        let OpenFile {
+            locked,
+            file,
+            is_settled,
+        } = self;
+        close(rt, locked.whole.as_str(), is_settled, file.close());
     }
 }
 

@@ -55,13 +55,13 @@ fn claim(rt: &HostRuntime, path: &str) -> Result<File, StoreError> {
     Ok(open_above(rt, path)?)
 }
 
-// Sees that what is there is an empty file.
+// Sees that what is there is an empty file. A link that leads to nothing is something.
 fn see_empty(rt: &HostRuntime, path: &str) -> Result<(), StoreError> {
-    let about = fs::metadata(rt, path)?;
-    if about.is_file() && about.len() == 0 {
-        Ok(())
-    } else {
-        Err(StoreError::Exists)
+    match fs::metadata(rt, path) {
+        Ok(about) if about.is_file() && about.len() == 0 => Ok(()),
+        Ok(_) => Err(StoreError::Exists),
+        Err(error) if error.kind() == ErrorKind::NotFound => Err(StoreError::Exists),
+        Err(error) => Err(StoreError::from(error)),
     }
 }
 
