@@ -52,7 +52,12 @@ fn claim(rt: &HostRuntime, path: &str) -> Result<File, StoreError> {
         Err(error) if error.kind() == ErrorKind::AlreadyExists => see_empty(rt, path)?,
         Err(error) => return Err(StoreError::from(error)),
     }
-    Ok(open_above(rt, path)?)
+    let claimed = open_above(rt, path)?;
+    // Another process may have made its page file there since.
+    if claimed.metadata()?.len() > 0 {
+        return Err(StoreError::Exists);
+    }
+    Ok(claimed)
 }
 
 // Sees that what is there is an empty file. A link that leads to nothing is something.
