@@ -293,7 +293,7 @@ impl<'r> Store<'r> {
     ///
     /// Errors: as of `commit`. What wasn't saved is lost then.
     pub fn close(self) -> Result<(), StoreError>
-        ensures read { IsReadOnly self.file → result ≡ Err ReadOnly }
+        ensures read { IsReadOnly self.entry.file → result ≡ Err ReadOnly }
     {
         let mut store = self;
         store.commit()
