@@ -261,6 +261,7 @@ impl<'r> Store<'r> {
         ensures map { IfOk result (λ pairs. (whole : KeyMap) → HasMap self.old.map whole → from_entries pairs ≡ whole) }
         ensures same { OnOk result (self.new.map ≡ self.old.map) }
         ensures err { OnErr result (KeepsMap self.old.map self.new.map) }
+        ensures file { self.new.file ≡ self.old.file }
         ensures settings { settings_in self.new.map ≡ settings_in self.old.map }
     {
         Ok(self.map.pairs(self.rt.alloc())?)
