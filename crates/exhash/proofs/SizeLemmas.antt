@@ -53,13 +53,13 @@ no_fault key values f is are (inr fault) = no_values_fault values f are fault.1
 
 module _ {T : Type 0} (key : List ℕ) (values : List (List ℕ)) where
   -- a fault of a size
-  of_fault : (fault : StoreError) → IsSizeFault key values fault → IsSized {T} key values (Err fault)
+  of_fault : (fault : StoreError) → IsSizeFault key values fault → IsSized {T = T} key values (Err fault)
   of_fault fault given = record { ok = tt; refused = λ other is. ap Err (one_fault key values fault other given is); caused = λ of_sizes. given }
 
-  pub of_key : (fault : StoreError) → IsKeyFault key fault → IsSized {T} key values (Err fault)
+  pub of_key : (fault : StoreError) → IsKeyFault key fault → IsSized {T = T} key values (Err fault)
   of_key fault given = of_fault fault (inl given)
 
-  pub of_values : (fault : StoreError) → IsKey key → IsValuesFault values fault → IsSized {T} key values (Err fault)
+  pub of_values : (fault : StoreError) → IsKey key → IsValuesFault values fault → IsSized {T = T} key values (Err fault)
   of_values fault is given = of_fault fault (inr (is, given))
 
   -- whatever is answered of a key and values, but for such a fault
