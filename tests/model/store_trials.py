@@ -27,6 +27,9 @@ KEYS = 12
 # What is said of a change that is saved, and of one that is saved or not, which the next opening tells. A store that was told
 # one of these commits no more.
 SAVED, UNSURE = REFUSED + "the change was saved", REFUSED + "the change may have been saved"
+# What is said of a commit that found no memory before anything was saved, and of one that is saved by a store that commits no
+# more.
+UNSAVED, UNHELD = REFUSED + "nothing was saved: out of memory", REFUSED + "it is saved, but can't be opened again: out of memory"
 # The blocks that are left of a small file system.
 LEFT = range(0, 24, 2)
 PROCESSES, COMMITS = 4, 10
@@ -237,13 +240,13 @@ def growing_lines(errand):
 
 
 def asked_again(run, line, wanted):
-    """Asks a line, and again where memory was refused; False where the run is gone."""
+    """Asks a line, and again where memory was refused and nothing done; False where the run is gone."""
     answer = run.told(line)
-    if answer is not None and answer.startswith(MEMORY_REFUSED):
+    if answer is not None and answer.startswith((MEMORY_REFUSED, UNSAVED)):
         answer = run.told(line)
     if answer is None:
         return False
-    if answer != wanted:
+    if answer != wanted and not answer.startswith(UNHELD):
         raise Wrong(f"{line}: the answer is {answer!r}")
     return True
 
