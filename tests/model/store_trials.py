@@ -29,7 +29,7 @@ KEYS = 12
 SAVED, UNSURE = REFUSED + "the change was saved", REFUSED + "the change may have been saved"
 # What is said of a commit that found no memory before anything was saved, and of one that is saved by a store that commits no
 # more.
-UNSAVED, UNHELD = REFUSED + "nothing was saved: out of memory", REFUSED + "it is saved, but can't be opened again: out of memory"
+UNSAVED, UNHELD = REFUSED + "nothing was saved: out of memory", REFUSED + "it is saved, but can't be opened again"
 # The blocks that are left of a small file system.
 LEFT = range(0, 24, 2)
 PROCESSES, COMMITS = 4, 10
@@ -181,7 +181,7 @@ def committed_again(run, errand, committed):
     commit is done. Which pairs the next one may find."""
     asked(run, {"len": f"len {len(errand.left)}"})
     again = run.told("commit")
-    if again == "done" or committed == "done" or committed.startswith(SAVED):
+    if again == "done" or committed == "done" or committed.startswith((SAVED, UNHELD)):
         return [errand.left]
     if not committed.startswith(UNSURE):
         raise Wrong(f"a second commit: {again}, after {committed}")
