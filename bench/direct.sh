@@ -75,7 +75,7 @@ write_words() {
 }
 
 cat > "$folder/gets" <<'END'
-while read -r key; do "$1" get "$2" "#$key"; done < "$3"
+while read -r key; do "$1" get "$2" --hex "$key"; done < "$3"
 END
 cat > "$folder/fetches" <<'END'
 while read -r key; do gdbmtool --norc --quiet --read-only "$1" fetch "$key"; done < "$2"
@@ -157,7 +157,7 @@ time_gets() {
         [ -z "$rival" ] || [ "${line%% *}" -lt "$rival" ] && rival=${line%% *}
     done
     awk 'NR % 5 == 1' "$folder/words" | while read -r key; do
-        strace -e trace=pread64 "$program" get "$3" "#$key" 2>&1 >/dev/null |
+        strace -e trace=pread64 "$program" get "$3" --hex "$key" 2>&1 >/dev/null |
             sed -n "s/^pread64(.*, 4096, \([0-9]*\)) *= 4096$/$key \1/p"
     done > "$folder/reads"
     blocks=$(awk '{ keys[$1] = 1; read++ } END { for (key in keys) count++; if (count) printf "%.1f", read / count }' \

@@ -4,18 +4,20 @@ _exhash() {
     local word=${COMP_WORDS[COMP_CWORD]} last=${COMP_WORDS[COMP_CWORD - 1]} options=--help
     COMPREPLY=()
     if ((COMP_CWORD == 1)); then
-        mapfile -t COMPREPLY < <(compgen -W 'serve check dump load get put del swap pairs convert create backup version manual storm help --help --version' -- "$word")
+        mapfile -t COMPREPLY < <(compgen -W 'create get put del swap backup check dump pairs load convert serve storm version manual help --help --version' -- "$word")
         return
     fi
     case ${COMP_WORDS[1]} in
         serve) options='--open --save --help' ;;
         storm) options='--callers --calls --cap --wards --copies --help' ;;
-        check | dump | backup) ;;
+        check | dump) ;;
+        backup) options='--wait --help' ;;
         version) [[ $word == -* ]] || return ;;
         pairs | create)
             options='--cap --wards --keyer --help'
+            [[ ${COMP_WORDS[1]} == pairs ]] || options+=' --wait'
             case $last in
-                --cap | --wards) return ;;
+                --cap | --wards | --wait) return ;;
                 --keyer)
                     mapfile -t COMPREPLY < <(compgen -W 'sha plain' -- "$word")
                     return
@@ -30,13 +32,20 @@ _exhash() {
             fi
             ;;
         load) options='--long --into --help' ;;
-        # Keys and values are no paths.
-        get | put | del | swap) ((COMP_CWORD == 2)) || return ;;
+        get) options='--from --hex --raw --wait --help' ;;
+        put) options='--new --replace --hex --raw --wait --help' ;;
+        del) options='--from --hex --wait --help' ;;
+        swap) options='--hex --wait --help' ;;
         help | manual)
-            mapfile -t COMPREPLY < <(compgen -W 'serve check dump load get put del swap pairs convert create backup version manual storm' -- "$word")
+            mapfile -t COMPREPLY < <(compgen -W 'create get put del swap backup check dump pairs load convert serve storm version manual' -- "$word")
             return
             ;;
         *) return ;;
+    esac
+    case ${COMP_WORDS[1]} in
+        # Keys, values and seconds are no paths.
+        get | put | del | swap) [[ $word == -* ]] || ((COMP_CWORD == 2)) || return ;;
+        backup) [[ $last != --wait ]] || return ;;
     esac
     if [[ $word == -* ]]; then
         mapfile -t COMPREPLY < <(compgen -W "$options" -- "$word")

@@ -4,11 +4,14 @@
  * The call that REFUSED_CALL names, `open`, `read`, `pread`, `write`, `pwrite`, `fsync`, `fdatasync`, `rename`, `link`,
  * `ftruncate`, `fchmod`, `fchown`, `flock`, `unlink`, `dup`, `statx`, `realpath` or `readlink`, or each of these by `any`,
  * fails with the error number REFUSED_ERROR, or where that is 0 the program is killed in its place: the call number
- * REFUSED_NTH, counted from 1 over all threads, or each where there is no such number. The call number REFUSED_AT is made,
- * or fails, only once the descriptor REFUSED_WAITS is at its end. Where there is REFUSED_ABOUT, only calls about a file
+ * REFUSED_NTH, counted from 1 over all threads, or each where there is no such number. Each call whose number is among
+ * REFUSED_AT is made, or fails, only once the descriptor in its place among REFUSED_WAITS is at its end; both are lists of
+ * numbers with commas between. Where there is REFUSED_ABOUT, only calls about a file
  * with this in its path count. Each of these calls, of whatever name, is told to the descriptor REFUSED_TELLS, if there is
  * one, in a line: its name; how the file is opened, 0 to read, 1 to write, 2 for both; and its path, or `&N` of the
- * descriptors 0 to 2. One that waits is told again, by the name `waits`, and one that is refused by the name `refused`. */
+ * descriptors 0 to 2. One that waits is told again, by the name `waits`, and one that is refused by the name `refused`.
+ *
+ * Where there is REFUSED_HASTE, so many times faster time passes for the program: nobody waits whole seconds for a lock. */
 #define _GNU_SOURCE
 #include <dlfcn.h>
 #include <errno.h>
@@ -21,6 +24,7 @@
 #include <string.h>
 #include <sys/stat.h>
 #include <sys/syscall.h>
+#include <time.h>
 #include <unistd.h>
 
 static atomic_ulong calls;
@@ -39,18 +43,34 @@ static void wait_for_the_end(int descriptor) {
         continue;
 }
 
+/* The descriptor at whose end the call of this number is made, or -1 where it needn't wait. */
+static int descriptor_for(unsigned long number) {
+    const char *at = getenv("REFUSED_AT"), *waits = getenv("REFUSED_WAITS");
+    while (at != NULL && waits != NULL && *at != 0 && *waits != 0) {
+        char *behind_at, *behind_waits;
+        unsigned long held = strtoul(at, &behind_at, 10);
+        long descriptor = strtol(waits, &behind_waits, 10);
+        if (held == number)
+            return (int)descriptor;
+        at = *behind_at == ',' ? behind_at + 1 : behind_at;
+        waits = *behind_waits == ',' ? behind_waits + 1 : behind_waits;
+    }
+    return -1;
+}
+
 static int is_refused(const char *call, int access, const char *path) {
     const char *about = getenv("REFUSED_ABOUT"), *nth = getenv("REFUSED_NTH"), *error = getenv("REFUSED_ERROR");
-    const char *refused = getenv("REFUSED_CALL"), *at = getenv("REFUSED_AT"), *waits = getenv("REFUSED_WAITS");
+    const char *refused = getenv("REFUSED_CALL");
     if (refused == NULL || error == NULL || (about != NULL && strstr(path, about) == NULL))
         return 0;
     tell(call, access, path);
     if (strcmp(refused, call) != 0 && strcmp(refused, "any") != 0)
         return 0;
     unsigned long number = atomic_fetch_add(&calls, 1) + 1;
-    if (at != NULL && waits != NULL && number == strtoul(at, NULL, 10)) {
+    int waits = descriptor_for(number);
+    if (waits >= 0) {
         tell("waits", access, path);
-        wait_for_the_end(atoi(waits));
+        wait_for_the_end(waits);
     }
     if (nth != NULL && number != strtoul(nth, NULL, 10))
         return 0;
@@ -170,4 +190,37 @@ int fcntl(int descriptor, int command, ...) {
     if (command == F_DUPFD_CLOEXEC && is_refused_of("dup", descriptor))
         return -1;
     return REAL("fcntl", int, int, int, ...)(descriptor, command, value);
+}
+
+#define SECOND 1000000000ll
+
+static long long haste(void) {
+    const char *asked = getenv("REFUSED_HASTE");
+    return asked == NULL ? 1 : atoll(asked);
+}
+
+static long long nanoseconds_of(const struct timespec *time) {
+    return time->tv_sec * SECOND + time->tv_nsec;
+}
+
+static struct timespec time_of(long long nanoseconds) {
+    return (struct timespec){.tv_sec = nanoseconds / SECOND, .tv_nsec = nanoseconds % SECOND};
+}
+
+int clock_gettime(clockid_t clock, struct timespec *now) {
+    long ended = syscall(SYS_clock_gettime, clock, now);
+    if (ended == 0 && clock == CLOCK_MONOTONIC)
+        *now = time_of(nanoseconds_of(now) * haste());
+    return (int)ended;
+}
+
+int nanosleep(const struct timespec *asked, struct timespec *left) {
+    struct timespec shorter = time_of(nanoseconds_of(asked) / haste());
+    return (int)syscall(SYS_nanosleep, &shorter, left);
+}
+
+/* Until a time the same way: a clock's time is as much later as it is shown. */
+int clock_nanosleep(clockid_t clock, int flags, const struct timespec *asked, struct timespec *left) {
+    struct timespec shorter = time_of(nanoseconds_of(asked) / haste());
+    return syscall(SYS_clock_nanosleep, clock, flags, &shorter, left) == 0 ? 0 : errno;
 }

@@ -19,6 +19,10 @@ walk names, is worked out from these each time.
     placed_file    the bytes of a page file of version 3
     placed_reader  what these say, or their first fault
     command_line   the words behind a command
+    request        what the words of an everyday command ask for
+    everyday       what such a command comes to: what it prints, says, ends with and leaves
+    said           the sentences of standard error, as far as they are known
+    saving         where a file may be saved
     program        what the program does with its words: what it prints, its status, and the files it leaves
 
 The others make scripts by chance, and run the program over them.
@@ -37,6 +41,7 @@ The others make scripts by chance, and run the program over them.
     spawned        runs of the program in a folder of memory
     sweeps         parts of many runs by workers at once
     stories        runs that belong together
+    commands       commands by chance over a file, beside its map
     runs           runs the program, and names the first line that differs
     counts         what must have come up
     wrong_answers  a program that gives a wrong answer, for `check`

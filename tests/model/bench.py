@@ -76,12 +76,47 @@ def built(room, name):
     return library
 
 
+class Holding:
+    """A run that began, and waits at its calls of some numbers until it may go on."""
+
+    def __init__(self, bench, saver, places, fault=Fault(0, 0)):
+        (told, tell), pipes = os.pipe(), [os.pipe() for _ in places]
+        waits = [it for it, _ in pipes]
+        asked = {"LD_PRELOAD": bench.shim, "REFUSED_CALL": "any", "REFUSED_NTH": str(fault.nth)}
+        asked |= {"REFUSED_ERROR": str(fault.error), "REFUSED_AT": ",".join(map(str, places))}
+        asked |= {"REFUSED_WAITS": ",".join(map(str, waits)), "REFUSED_TELLS": str(tell)}
+        asked |= {"REFUSED_HASTE": str(bench.haste)}
+        self.goes = [it for _, it in pipes]
+        self.lines = open(told, "r", encoding="utf-8")
+        self.run = bench.started(saver, env=ENVIRONMENT | asked, pass_fds=[tell, *waits])
+        for descriptor in (tell, *waits):
+            os.close(descriptor)
+
+    def calls(self):
+        """The calls up to the next one at which the run waits, and whether it does."""
+        return calls_to_wait(self.lines)
+
+    def go(self):
+        """Lets the run make the call at which it waits."""
+        os.close(self.goes.pop(0))
+
+    def ended(self):
+        """What the run comes to, which waits no more."""
+        while self.goes:
+            self.go()
+        with self.lines:
+            last = ended(self.run)
+            return last, [call_of(line) for line in self.lines]
+
+
 class Bench:
     """A folder in which savers run. Files are laid there for this owner and group, where they aren't the runner's."""
 
     def __init__(self, program, shim, folder, mode=MODE, mask=MASK, owner=None):
         self.program, self.shim, self.folder = program, shim, Path(folder).resolve()
         self.mode, self.mask, self.owner = mode, mask, owner
+        # How many times faster time passes for the runs, which then wait less for each other.
+        self.haste = 1
 
     def lay(self, files):
         """Leaves these files and links in the folder, no other."""
@@ -132,24 +167,16 @@ class Bench:
         if isinstance(run, Writer):
             run.write_in(self.folder)
             return Ended(0, b"", "")
-        return ended(self.started(run, env=ENVIRONMENT))
+        hastened = {} if self.haste == 1 else {"LD_PRELOAD": self.shim, "REFUSED_HASTE": str(self.haste)}
+        return ended(self.started(run, env=ENVIRONMENT | hastened))
 
     def held(self, saver, at, between, fault=Fault(0, 0)):
         """Runs a saver of which a call fails, if one is to, and that waits at its call of this number until something is
         done. Where it has no such call nothing is done."""
-        (told, tell), (waits, go) = os.pipe(), os.pipe()
-        asked = {"LD_PRELOAD": self.shim, "REFUSED_CALL": "any", "REFUSED_NTH": str(fault.nth)}
-        asked |= {"REFUSED_ERROR": str(fault.error), "REFUSED_AT": str(at), "REFUSED_WAITS": str(waits)}
-        how = {"env": ENVIRONMENT | asked | {"REFUSED_TELLS": str(tell)}, "pass_fds": [tell, waits]}
-        with open(told, "r", encoding="utf-8") as lines:
-            run = self.started(saver, **how)
-            os.close(tell)
-            os.close(waits)
-            try:
-                calls, is_waiting = calls_to_wait(lines)
-                done = between() if is_waiting else None
-            finally:
-                os.close(go)
-                last = ended(run)
-            later = [call_of(line) for line in lines]
+        run = Holding(self, saver, [at], fault)
+        try:
+            calls, is_waiting = run.calls()
+            done = between() if is_waiting else None
+        finally:
+            last, later = run.ended()
         return Held(is_waiting, calls, later, done, last)

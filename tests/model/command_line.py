@@ -1,6 +1,6 @@
 """The words behind a command: which stand at its places, and what its options are given."""
 
-from .grammar import WrongLine, call_of, is_call_in_range, number_of
+from .grammar import WrongLine, number_of
 from .version import CAP_LIMIT, CURRENT, PLACED, WARD_BITS_LIMIT
 
 ANY_FURTHER = "--"
@@ -68,20 +68,6 @@ def pairing_of(words):
 USUAL = {"cap": CAP_LIMIT, "wards": 0, "keyer": "sha"}
 
 
-def creating_of(words):
-    """The path that the words of `create` name, and the settings of the new file."""
-    path, settings = pairing_of(words)
-    return path, USUAL | settings
-
-
-def copying_of(words):
-    """The two paths that the words of `backup` name."""
-    places, _ = parted(words)
-    if len(places) != 2:
-        raise WrongWords
-    return places
-
-
 def converting_of(words):
     """The two paths that the words of `convert` name, and the version."""
     places, options = parted(words, ["version"])
@@ -89,15 +75,3 @@ def converting_of(words):
     if len(places) != 2 or version not in (str(CURRENT.number), str(PLACED.number)):
         raise WrongWords
     return *places, int(version)
-
-
-def calling_of(command, words):
-    """The path and the call that the words of `get`, `put`, `del` or `swap` name."""
-    places, _ = parted(words)
-    try:
-        call = call_of([command, *places[1:]])
-    except WrongLine:
-        raise WrongWords from None
-    if not is_call_in_range(call):
-        raise WrongWords
-    return places[0], call

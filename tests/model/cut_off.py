@@ -3,14 +3,14 @@
 import tempfile
 from pathlib import Path
 
-from .in_place import MEMORY, PAIRS, PLACE, files_in, key_of, run
+from .in_place import MEMORY, PAIRS, PLACE, calling, files_in, key_of, run
 
 # The error by which the program is killed at a call.
 KILL = 0
 # A log of fewer bytes has no change.
 LOG, LEAST = PLACE + "-wal", 56
 # The put that is cut off, and the pairs behind it.
-PUT = ["put", PLACE, key_of(1), "cut"]
+PUT = calling("put", key_of(1), "cut")
 CHANGED = {key_of(1): "cut"}
 LATER = {**PAIRS, **CHANGED}
 

@@ -6,8 +6,9 @@ import re
 from typing import NamedTuple
 
 from .bits import pseudokey_of
-from .command_line import ANY_FURTHER, is_option
+from .command_line import ANY_FURTHER
 from .grammar import hexadecimal, printed
+from .request import is_taken
 from .version import KEY_LIMIT, LIMIT, NUMBER_LIMIT, VALUE_LIMIT
 
 # How many bytes the longest prefix takes.
@@ -118,13 +119,19 @@ def pairing_words(dice, name):
     return [word for part in parts for word in part]
 
 
-def placed(dice, words):
-    """Words at their places, seldom with `--` among them; always where a later one would be taken for an option."""
-    first = next((at for at, word in enumerate(words) if is_option(word)), None)
+def calling_words(dice, command, name, contents):
+    """The words of a call over the file of a name, of keys and values, one letter a byte: seldom as hexadecimal digits, and
+    always where a byte can't be of a word; seldom with `--` among them, and always where a later one would be an option."""
+    if any(b"\0" in it for it in contents) or dice.random() < 0.2:
+        words = [name, *(it.hex() for it in contents)]
+        words.insert(dice.randint(0, len(words)), "--hex")
+        return [command, *words]
+    words = [name, *(it.decode("latin-1") for it in contents)]
+    first = next((at for at, it in enumerate(words) if is_taken(command, it.encode("latin-1"))), None)
     if first is None and dice.random() < 0.8:
-        return words
+        return [command, *words]
     at = dice.randint(0, len(words) if first is None else first)
-    return [*words[:at], ANY_FURTHER, *words[at:]]
+    return [command, *words[:at], ANY_FURTHER, *words[at:]]
 
 
 def wrong_file_line(dice, taste, is_opened):

@@ -38,16 +38,28 @@ def script_of(lines):
     return FIRST_LINE + "".join(line + "\n" for line in lines).encode()
 
 
-def without(key):
-    return {other: value for other, value in PAIRS.items() if other != key}
+def without(*keys):
+    return {other: value for other, value in PAIRS.items() if other not in keys}
 
 
+def calling(command, *words, path=PLACE):
+    """The words of a call over a file, of keys and values that are spelled as in a script."""
+    return [command, path, "--hex", *(bytes_of(word).hex() for word in words)]
+
+
+def bytes_of(word):
+    return bytes.fromhex(word[1:]) if word.startswith("#") else word.encode()
+
+
+# The keys that are taken out together.
+MANY = (7, 8, 27)
 ADDED = [f"#c1{number:02x}" for number in range(3)]
 ERRANDS = {
-    "a put of a value": Errand(["put", PLACE, key_of(3), "other"], b"", {**PAIRS, key_of(3): "other"}),
-    "a put of a new key": Errand(["put", PLACE, "#c1c1c1", "new"], b"", {**PAIRS, "#c1c1c1": "new"}),
-    "a del": Errand(["del", PLACE, key_of(7)], b"", without(key_of(7))),
-    "a swap": Errand(["swap", PLACE, key_of(5), "v5", "w5"], b"", {**PAIRS, key_of(5): "w5"}),
+    "a put of a value": Errand(calling("put", key_of(3), "other"), b"", {**PAIRS, key_of(3): "other"}),
+    "a put of a new key": Errand(calling("put", "#c1c1c1", "new"), b"", {**PAIRS, "#c1c1c1": "new"}),
+    "a del": Errand(calling("del", key_of(7)), b"", without(key_of(7))),
+    "a del of three keys": Errand(calling("del", *map(key_of, MANY)), b"", without(*map(key_of, MANY))),
+    "a swap": Errand(calling("swap", key_of(5), "v5", "w5"), b"", {**PAIRS, key_of(5): "w5"}),
     "a load into the file": Errand(
         ["load", "--into", PLACE], script_of(f"{key} n" for key in ADDED), {**PAIRS, **{key: "n" for key in ADDED}}
     ),
@@ -86,10 +98,6 @@ def lay(program, room):
 def files_in(room):
     """The files of a folder, by their names."""
     return {name: Path(room, name).read_bytes() for name in os.listdir(room)}
-
-
-def bytes_of(word):
-    return bytes.fromhex(word[1:]) if word.startswith("#") else word.encode()
 
 
 def by_bytes(pairs):

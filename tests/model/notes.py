@@ -2,13 +2,15 @@
 
 import collections
 
-from .command_line import calling_of
+from .command_line import WrongWords, converting_of, pairing_of
+from .everyday import answer_of, content_at
 from .file_reader import file_of
 from .grammar import FORMS, MOVES, WrongLine, bytes_of, number_of, settings_of
-from .page_file import BLOCK, Load
+from .page_file import Load, load_of
 from .page_reader import Fault
-from .placed_change import is_in_place
-from .script import Script
+from .request import EVERYDAY
+from .said import ANY, TELLING, sentence_of
+from .script import Script, text_of
 from .version import (
     CAP_LIMIT,
     COPY_LIMIT,
@@ -108,7 +110,7 @@ class Notes:
     def end(self):
         more = ((kind, self.counts[kind] - TOLD) for kind in KINDS)
         self.lines += [f"exhash: further lines that are {kind}: {count}" for kind, count in more if count > 0]
-        return "".join(line + "\n" for line in self.lines).encode("latin-1")
+        return self.lines
 
     def wrong(self, at, line, printed, is_first, later):
         """Tells of a line that is refused with 60 or 61."""
@@ -127,7 +129,7 @@ def notes_of_script(content, opened):
     """Of a script over a file that is opened, or a new one."""
     notes, script = Notes(), Script(opened)
     if len(content) > SCRIPT_LIMIT:
-        return (TOO_LONG + "\n").encode()
+        return [TOO_LONG]
     for at, line in numbered(content):
         is_first, was_refused = script.world is None, script.is_refused
         printed = script.line(line)
@@ -155,7 +157,7 @@ def notes_of_pairs(content, opened=None):
     """Of a load of pairs, into a file that is opened or a new one."""
     notes, load = Notes(), Load(opened)
     if opened is None and len(content) > SCRIPT_LIMIT:
-        return (TOO_LONG + "\n").encode()
+        return [TOO_LONG]
     settings = None
     for at, line in numbered(content):
         printed = load.line(line)
@@ -182,15 +184,91 @@ def options_of(words):
     return options
 
 
-def notes_of_call(name, files):
-    """Of a call that is to change the file of a name."""
-    content = files.get(name, b"")
-    is_cut = is_in_place(content) and len(content) % BLOCK
-    return f'exhash: not saved to "{name}": it ends amid a block\n'.encode() if is_cut else b""
+def path_of(words):
+    """The path that the words of a command name that prints why a page file is refused, of a load only that which is opened."""
+    match words:
+        case ["load", "--into", name] | [("check" | "dump"), name]:
+            return name
+        case ["pairs", *spelled]:
+            return pairing_of(spelled)[0]
+    return None
+
+
+def notes_of_file(words, files):
+    """Why the page file is refused that such a command reads, in a sentence; nothing where it isn't."""
+    try:
+        path = path_of(words) if words[0] in TELLING else None
+        if path is not None:
+            file_of(content_at(path, files))
+    except WrongWords:
+        return []
+    except Fault as fault:
+        return [sentence_of(path, fault.text(), files.get(path))]
+    return []
+
+
+def may_be_said(words, files):
+    """The sentence that a script or a conversion may say of the file that it opens, where that is refused: what they print
+    alone is fixed."""
+    match words:
+        case ["serve", *options]:
+            path = options_of(options).get("--open")
+        case ["convert", *spelled]:
+            path = converting_of(spelled)[0]
+        case _:
+            return []
+    try:
+        if path is not None:
+            file_of(content_at(path, files))
+    except Fault as fault:
+        return [sentence_of(path, fault.text(), files.get(path))]
+    return []
+
+
+def records_at(path, files):
+    """The settings of the page file of a path that has records; nothing where there is none, or it has none."""
+    try:
+        file = file_of(content_at(path, files))
+    except Fault:
+        return None
+    return (file.cap, file.ward_bits, file.keyer) if file.map else None
+
+
+def notes_of_replacing(words, given, files):
+    """That a page file with records was replaced by one that didn't come of it: of a load where that has none, or other
+    settings."""
+    path, left = None, None
+    match words:
+        case ["load", "--into", _]:
+            return []
+        case ["load", *_, path]:
+            left = load_of(given)[1].left()
+        case ["serve", *options]:
+            named = options_of(options)
+            path = named.get("--save") if named.get("--save") != named.get("--open") else None
+            opened = file_of(content_at(named["--open"], files)) if "--open" in named else None
+            left = text_of(given, opened)[1].left() if path is not None else None
+    settings = records_at(path, files) if left is not None else None
+    if settings is None:
+        return []
+    is_told = words[0] == "serve" or not left.map or settings != (left.cap, left.ward_bits, left.keyer)
+    return [f"exhash: {path}: {ANY}"] if is_told else []
 
 
 def notes_of(words, given, files):
-    """What standard error has of a run that the documents allow, with its files before; of each that is opened the bytes."""
+    """The patterns of what standard error has of a run that the documents allow, with its files before."""
+    if words[0] in EVERYDAY:
+        return answer_of([word.encode("latin-1") for word in words], given, files).error
+    if sentence := notes_of_file(words, files):
+        return sentence
+    try:
+        return [*notes_of_text(words, given, files), *notes_of_replacing(words, given, files)]
+    except Fault:
+        return []
+
+
+def notes_of_text(words, given, files):
+    """Of the text that a run is given."""
     name = None
     match words:
         case ["load", "--into", name]:
@@ -199,12 +277,7 @@ def notes_of(words, given, files):
             notes_of_given = notes_of_pairs
         case ["serve", *options]:
             notes_of_given, name = notes_of_script, options_of(options).get("--open")
-        case [("put" | "del" | "swap") as command, *spelled]:
-            return notes_of_call(calling_of(command, spelled)[0], files)
         case _:
-            return b""
-    try:
-        opened = None if name is None else file_of(files[name])
-    except Fault:
-        return b""
+            return []
+    opened = None if name is None else file_of(content_at(name, files))
     return notes_of_given(given, opened)

@@ -52,6 +52,11 @@ class PlacedChange(PlacedReader):
         if blocks != end:
             raise Fault(TRUNCATED if blocks < end else TRAILING)
 
+    def value(self, key):
+        """The value that a key has; none where it has none."""
+        _, page = self.home_of(self.head, pseudokey_of(self.keyer, key))
+        return dict(page.records).get(key)
+
     def call(self, call):
         """The reply, and the content afterwards, which is the old one where the call isn't done."""
         before, pseudokey = self.content, pseudokey_of(self.keyer, call.key)

@@ -5,9 +5,10 @@ import subprocess
 import tempfile
 from pathlib import Path
 
-from .notes import notes_of
+from .notes import may_be_said, notes_of
 from .page_file import BLOCK, CONTENT, sealed
 from .placed_file import is_placed, stamps_of, with_stamps
+from .said import is_like
 
 SECONDS = 60
 ENVIRONMENT = {"PATH": "/usr/local/bin:/usr/bin:/bin", "LANG": "C.UTF-8"}
@@ -50,23 +51,24 @@ def difference_in_run(program, run, folder, words=None, kept=()):
     The files of the names that are kept must be as they were.
     """
     before = {file.name: file.read_bytes() for file in folder.iterdir()}
-    error = notes_of(run.words, run.given, before)
+    error, more = notes_of(run.words, run.given, before), may_be_said(run.words, before)
     how = {"cwd": folder, "env": ENVIRONMENT, "input": run.given, "capture_output": True, "timeout": SECONDS}
     try:
-        ended = subprocess.run([program, *(run.words if words is None else words)], check=False, **how)
+        asked = [word.encode("latin-1") for word in (run.words if words is None else words)]
+        ended = subprocess.run([program, *asked], check=False, **how)
     except subprocess.TimeoutExpired:
         return ["it had not ended in time"]
     found = difference_in_text(run, ended.stdout.decode("latin-1"))
     if not found and ended.returncode != run.status:
         found = [f"status: wanted {run.status}, got {ended.returncode}"]
-    found = found or difference_in_error(error, ended.stderr)
+    found = found or difference_in_error(more if ended.stderr and not error else error, ended.stderr)
     return found or difference_in_files(run.files, before, kept, folder)
 
 
 def difference_in_error(wanted, got):
-    """The first line of standard error that differs."""
-    lines = itertools.zip_longest(wanted.decode("latin-1").splitlines(), got.decode("latin-1").splitlines())
-    differing = (pair for pair in lines if pair[0] != pair[1])
+    """The first line of standard error that isn't what its pattern says."""
+    lines = itertools.zip_longest(wanted, got.decode("latin-1").splitlines())
+    differing = (pair for pair in lines if None in pair or not is_like(*pair))
     return [f"standard error: wanted {shown(one)}, got {shown(other)}" for one, other in itertools.islice(differing, 1)]
 
 

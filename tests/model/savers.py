@@ -9,7 +9,7 @@ from .program import Outcome, outcome_of
 
 FIRST_LINE = b"file cap=4 wards=0 copies=1 keyer=plain\n"
 # The key that each file has.
-OLD = b"#a0 old\n"
+OLD_KEY, OLD = "a0", b"#a0 old\n"
 # What else a file has, that is known by it.
 OTHER = b"".join(b"#%02x%02x %d\n" % (high, low, high + low) for high in range(0, 256, 32) for low in (0, 64, 128))
 
@@ -81,7 +81,18 @@ def file_of(pairs):
 
 
 def put(path, key, value, user=None):
-    return Saver(["put", path, key, value], path, user=user)
+    """A put of a key in hexadecimal digits."""
+    return Saver(["put", "--hex", path, key, value.encode().hex()], path, user=user)
+
+
+def take(path, user=None):
+    """A del of the old key."""
+    return Saver(["del", "--hex", path, OLD_KEY], path, user=user)
+
+
+def swap(path, user=None):
+    """A swap of its value."""
+    return Saver(["swap", path, "--hex", OLD_KEY, b"old".hex(), b"new".hex()], path, user=user)
 
 
 def load(path, pairs, user=None):
@@ -100,9 +111,9 @@ def serve(path, call, user=None):
 def changing(path, user=None):
     """The runs that change the file of a path, over one that has the old key, by their names."""
     return {
-        "put": put(path, "#20", "y", user),
-        "del": Saver(["del", path, "#a0"], path, user=user),
-        "swap": Saver(["swap", path, "#a0", "old", "new"], path, user=user),
+        "put": put(path, "20", "y", user),
+        "del": take(path, user),
+        "swap": swap(path, user),
         "load --into": load_into(path, b"#00 a\n#80 b\n#40 x\n", user),
         "serve": serve(path, b"put #20 y", user),
     }

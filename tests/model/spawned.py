@@ -4,8 +4,11 @@ import itertools
 import os
 import tempfile
 from pathlib import Path
+from typing import NamedTuple
 
+from .notes import notes_of
 from .program import outcome_of
+from .said import are_like
 
 # Where files are written that only one run reads, so that nobody waits for a disk.
 MEMORY = "/dev/shm"
@@ -16,6 +19,14 @@ def folder_for(name):
     return tempfile.TemporaryDirectory(prefix=f"exhash-{name}-", dir=MEMORY if os.path.isdir(MEMORY) else None)
 
 
+class Told(NamedTuple):
+    """What a run comes to, one letter a byte."""
+
+    text: str
+    error: str
+    status: int
+
+
 class Bench:
     """A folder in which the program is run."""
 
@@ -23,35 +34,46 @@ class Bench:
         self.program = program
         self.file = Path(folder, "file.exh")
         self.saved = Path(folder, "saved.exh")
-        self.answer = os.open(Path(folder, "answer"), os.O_RDWR | os.O_CREAT)
+        self.answers = [os.open(Path(folder, name), os.O_RDWR | os.O_CREAT) for name in ("text", "error")]
 
     def run(self, *words, given=None):
-        """What the program prints, standard error too, and its status."""
-        os.ftruncate(self.answer, 0)
-        os.lseek(self.answer, 0, os.SEEK_SET)
-        actions = [(os.POSIX_SPAWN_DUP2, self.answer, 1), (os.POSIX_SPAWN_DUP2, self.answer, 2)]
+        """What the program comes to, in the folder."""
+        for answer in self.answers:
+            os.ftruncate(answer, 0)
+            os.lseek(answer, 0, os.SEEK_SET)
+        actions = [(os.POSIX_SPAWN_DUP2, answer, at) for at, answer in enumerate(self.answers, 1)]
         if given is not None:
             actions.append((os.POSIX_SPAWN_DUP2, given, 0))
         words = [self.program, *map(os.fspath, words)]
         started = os.posix_spawn(self.program, words, {"LANG": "C.UTF-8"}, file_actions=actions)
         _, status = os.waitpid(started, 0)
-        told = os.pread(self.answer, os.fstat(self.answer).st_size, 0)
-        return told.decode(errors="replace"), os.waitstatus_to_exitcode(status)
+        told = [os.pread(answer, os.fstat(answer).st_size, 0).decode("latin-1") for answer in self.answers]
+        return Told(*told, os.waitstatus_to_exitcode(status))
+
+    def close(self):
+        for answer in self.answers:
+            os.close(answer)
 
 
 def differing(wanted, got):
-    """In what a run differs, which is told in short; nothing where it doesn't."""
-    return None if got == wanted else f"wanted {wanted}, got {got}"
+    """In what a run differs, which is told in short, of standard error from the patterns of its lines; nothing where it
+    doesn't."""
+    text, patterns, status = wanted
+    is_right = (text, status) == (got.text, got.status) and are_like(patterns, got.error.splitlines())
+    return None if is_right else f"wanted {wanted}, got {tuple(got)}"
 
 
 def difference_in(bench, content, *words):
     """In what a run over a file differs from what the reader says of it; nothing where it doesn't."""
     command, *rest = words
-    wanted = outcome_of([command, "file.exh", *rest], b"", {"file.exh": content})
-    text, status = bench.run(command, bench.file, *rest)
-    if text == "".join(f"{line}\n" for line in wanted.lines) and status == wanted.status:
+    asked, files = [command, os.fspath(bench.file), *rest], {os.fspath(bench.file): content}
+    wanted, got = outcome_of(asked, b"", files), bench.run(*asked)
+    patterns = notes_of(asked, b"", files)
+    if (got.text, got.status) == (wanted.text.decode("latin-1"), wanted.status) and are_like(patterns, got.error.splitlines()):
         return None
-    for number, (want, got) in enumerate(itertools.zip_longest(wanted.lines, text.splitlines()), 1):
-        if want != got:
-            return f"`{' '.join(words)}`, line {number}: wanted {want!r}, got {got!r}, status {status}"
-    return f"`{' '.join(words)}`: wanted the status {wanted.status}, got {status}"
+    for number, (want, line) in enumerate(itertools.zip_longest(wanted.lines, got.text.split("\n")[:-1]), 1):
+        if want != line:
+            return f"`{' '.join(words)}`, line {number}: wanted {want!r}, got {line!r}, status {got.status}"
+    if wanted.status != got.status:
+        return f"`{' '.join(words)}`: wanted the status {wanted.status}, got {got.status}"
+    return f"`{' '.join(words)}`: standard error: wanted {patterns}, got {got.error!r}"

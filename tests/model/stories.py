@@ -10,10 +10,10 @@ from .dice import (
     COPIES,
     WRONG_BYTES,
     WRONG_LINES,
+    calling_words,
     file_line,
     other_than,
     pairing_words,
-    placed,
     spelled,
     taste_of,
     value_by,
@@ -207,7 +207,7 @@ class Teller:
         command = self.dice.choice(("get", "put", "put", "del", "swap"))
         self.story.met["call over a file of version 3"] += is_placed(self.files[name])
         lines = self.ask(self.call_words(command, name, file_of(self.files[name])))
-        of_get = "found" if lines else "absent"
+        of_get = "absent" if self.story.runs[-1].status else "found"
         self.story.met[f"{command} of a file: {of_get if command == 'get' else lines[0].split(' ')[0]}"] += 1
 
     def call_words(self, command, name, file):
@@ -216,7 +216,7 @@ class Teller:
         stands = file.map.get(key, b"")
         old = stands if self.chance(50) else other_than(self.dice, stands)
         values = {"put": [value_by(self.dice)], "swap": [old, value_by(self.dice)]}.get(command, [])
-        return [command, *placed(self.dice, [name, *(spelled(self.dice, it) for it in (key, *values))])]
+        return calling_words(self.dice, command, name, [key, *values])
 
     def key_of(self, command, file):
         """A key that a file has, or one that it lacks; for a put also one for which it has no room."""
@@ -250,10 +250,10 @@ class Teller:
 
     def what_came(self, is_call, lines):
         """What came of a run over a damaged file: it is refused, or is answered."""
-        fault = lines[0].partition(" at ")[0] if lines else "that ends amid a block"
-        if not lines or fault.startswith(("refused 3", "refused 40")):
-            return fault
-        return "of which a call is answered" if is_call else "that is legal"
+        if is_call:
+            return f"of which a call is {'refused' if self.story.runs[-1].status == 1 else 'answered'}"
+        fault = lines[0].partition(" at ")[0]
+        return fault if fault.startswith(("refused 3", "refused 40")) else "that is legal"
 
     def refuse(self, source=None):
         """A script that is refused as a whole, over a new file or an opened one: nothing is saved."""

@@ -25,7 +25,7 @@ def examine(program, number, places):
                     return seen, f"at {at}: {found}"
                 seen.update(met)
         finally:
-            os.close(bench.answer)
+            bench.close()
     return seen, None
 
 

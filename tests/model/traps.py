@@ -4,7 +4,7 @@ import os
 import shutil
 
 from .cut_off import LATER, LOG, laid
-from .in_place import FIRST_LINE, MORE, PAIRS, PLACE, key_of
+from .in_place import FIRST_LINE, MORE, PAIRS, PLACE, calling, key_of
 from .page_file import BLOCK, sealed
 from .page_reader import Live
 from .placed_change import block_of
@@ -13,7 +13,11 @@ from .rooms import SHARED_FOLDER, USERS
 from .trap_rooms import Wrong, fill, room_with, shared_room, small_room
 
 LINK = "link.exh"
-OTHERS = "is another file's: remove it"
+# What each sentence of a refusal begins with.
+REFUSED = f"exhash: {PLACE}: "
+OTHERS = "is another file's"
+# What the put that is cut off leaves, as it is got.
+DIGITS = b"637574\n"
 # The bytes of a log from which all was copied.
 EMPTY_LOG = 41
 # A byte at which nothing special lies, though the locks of other programs do.
@@ -38,7 +42,7 @@ def log_of_another_file(program, left, _):
     with room_with(program, {**left, PLACE: another_file(program)}) as room:
         for words in (["put", PLACE, "k", "v"], ["del", PLACE, "a"], ["swap", PLACE, "a", "b", "c"]):
             room.is_let_be(words, OTHERS)
-        room.is_let_be(["get", PLACE, "a"], OTHERS, text=b"refused 41\n")
+        room.is_let_be(["get", PLACE, "a"], OTHERS)
         room.is_let_be(["check", PLACE], OTHERS, text=b"refused 41\n")
         room.at(LOG).unlink()
         room.wants(["put", PLACE, "k", "v"], 0, b"new\n")
@@ -84,7 +88,7 @@ def file_and_log_copied(program, left, _):
         shutil.copy(room.at(PLACE), room.at("copy.exh"))
         shutil.copy(room.at(LOG), room.at("copy.exh-wal"))
         for name in ("copy.exh", PLACE):
-            room.wants(["get", name, key_of(1)], 0, b"cut\n")
+            room.wants(calling("get", key_of(1), path=name), 0, DIGITS)
             room.has(LATER, name)
         room.has_no_log()
 
@@ -110,7 +114,7 @@ def folder_for_a_log(program, _, alone):
     with room_with(program, alone) as room:
         room.at(LOG).mkdir()
         content = room.at(PLACE).read_bytes()
-        room.wants(["put", PLACE, "k", "v"], 1, b"", "not saved to")
+        room.wants(["put", PLACE, "k", "v"], 1, b"", REFUSED)
         if room.at(PLACE).read_bytes() != content:
             raise Wrong("put: it changed the file")
         room.at(LOG).rmdir()
@@ -122,7 +126,7 @@ def pipe_for_a_log(program, _, alone):
     with room_with(program, alone) as room:
         os.mkfifo(room.at(LOG))
         content = room.at(PLACE).read_bytes()
-        room.wants(["put", PLACE, "k", "v"], 1, b"", "not saved to")
+        room.wants(["put", PLACE, "k", "v"], 1, b"", REFUSED)
         room.at(LOG).unlink()
         if room.at(PLACE).read_bytes() != content:
             raise Wrong("put: it changed the file")
@@ -136,8 +140,8 @@ def second_name(program, _, alone):
     """A hard link: the file is read, and not changed."""
     with room_with(program, alone) as room:
         os.link(room.at(PLACE), room.at(LINK))
-        for words in (["put", LINK, "k", "v"], ["del", PLACE, key_of(1)]):
-            room.is_let_be(words, f'not saved to "{words[1]}": it has a second name (a hard link)')
+        for words in (["put", LINK, "k", "v"], calling("del", key_of(1))):
+            room.is_let_be(words, "second name")
         room.has(PAIRS)
         room.at(LINK).unlink()
         room.wants(["put", PLACE, MORE, "1"], 0, b"new\n")
@@ -150,7 +154,7 @@ def link_to_the_file(program, left, alone):
         link = room.at("links") / LINK
         link.symlink_to(f"../{PLACE}")
         # The log beside the file is found by the link too.
-        room.wants(["get", f"links/{LINK}", key_of(1)], 0, b"cut\n")
+        room.wants(calling("get", key_of(1), path=f"links/{LINK}"), 0, DIGITS)
         room.wants(["put", f"links/{LINK}", MORE, "1"], 0, b"new\n")
         room.has({**LATER, MORE: "1"})
         room.has_no_log()
@@ -165,7 +169,7 @@ def long_name(program, _, alone):
         room.at(PLACE).rename(room.at(name))
         room.wants(["put", name, MORE, "1"], 0, b"new\n")
         room.at(name).rename(room.at(f"{name}n"))
-        room.is_let_be(["put", f"{name}n", "k", "v"], "its name leaves no room for that of its log")
+        room.is_let_be(["put", f"{name}n", "k", "v"], "its name")
         room.at(f"{name}n").rename(room.at("n" * 255))
         room.has({**PAIRS, MORE: "1"}, "n" * 255)
         room.wants(["get", "n" * 255, MORE], 0, b"1\n")
@@ -180,14 +184,14 @@ def odd_name(program, left, _):
         room.has({**LATER, MORE: "1"}, name)
         room.has_no_log()
         os.link(room.at(name), room.at(LINK))
-        room.is_let_be(["put", name, "k", "v"], 'not saved to "a \\"b\\"\\n\\\\é.exh": it has a second name')
+        room.is_let_be(["put", name, "k", "v"], 'exhash: a "b"\\n\\\\é.exh: ')
 
 
 def journal(program, _, alone):
     """A file as SQLite's journal is named: the file isn't changed while it is there."""
     with room_with(program, alone) as room:
         room.at(f"{PLACE}-journal").write_bytes(b"")
-        room.is_let_be(["put", PLACE, "k", "v"], "a journal stands beside it")
+        room.is_let_be(["put", PLACE, "k", "v"], "-journal")
         room.at(f"{PLACE}-journal").unlink()
         room.wants(["put", PLACE, MORE, "1"], 0, b"new\n")
 
@@ -198,9 +202,9 @@ def journal(program, _, alone):
 def part_of_a_block(program, _, alone):
     """Bytes behind the last block that are no block: they are neither cut nor filled up."""
     with room_with(program, {PLACE: alone[PLACE] + b"behind"}) as room:
-        for words in (["put", PLACE, "k", "v"], ["del", PLACE, key_of(1)]):
-            room.is_let_be(words, f'not saved to "{PLACE}": it ends amid a block')
-        room.is_let_be(["check", PLACE], None, text=b"refused 39\n")
+        for words in (["put", PLACE, "k", "v"], calling("del", key_of(1))):
+            room.is_let_be(words, REFUSED)
+        room.is_let_be(["check", PLACE], "(refused 39)", text=b"refused 39\n")
 
 
 def above_a_gib(program, _, __):
@@ -222,8 +226,8 @@ def above_a_gib(program, _, __):
                 file.seek(at * BLOCK)
                 file.write(block)
             file.truncate((page_block_at(count - 1) + 1) * BLOCK)
-        room.wants(["put", PLACE, "#80", "v"], 0, b"new\n")
-        room.wants(["get", PLACE, "#80"], 0, b"v\n")
+        room.wants(calling("put", "#80", "v"), 0, b"new\n")
+        room.wants(calling("get", "#80"), 0, b"76\n")
         room.has_no_log()
         with room.at(PLACE).open("rb") as file:
             file.seek(GIB)
@@ -238,7 +242,7 @@ def file_to_read(program, _, alone):
     """A file that may only be read: it is, and isn't changed."""
     with shared_room(program, alone, USERS[0]) as room:
         os.chmod(room.at(PLACE), 0o444)
-        room.is_let_be(["put", PLACE, "k", "v"], "not saved to", user=USERS[0])
+        room.is_let_be(["put", PLACE, "k", "v"], REFUSED, user=USERS[0])
         room.has(PAIRS, user=USERS[0])
 
 
@@ -246,14 +250,14 @@ def folder_to_read(program, left, alone):
     """A folder in which nothing can be made: its file is read, and isn't changed; one with a log isn't read."""
     with shared_room(program, alone, USERS[0]) as room:
         os.chmod(room.folder, 0o555)
-        room.is_let_be(["put", PLACE, "k", "v"], "not saved to", user=USERS[0])
+        room.is_let_be(["put", PLACE, "k", "v"], REFUSED, user=USERS[0])
         room.has(PAIRS, user=USERS[0])
         os.chmod(room.folder, SHARED_FOLDER)
         room.at(LOG).write_bytes(left[LOG])
         os.chown(room.at(LOG), *USERS[1])
         os.chmod(room.at(LOG), 0o444)
         os.chmod(room.folder, 0o555)
-        room.is_let_be(["get", PLACE, key_of(1)], "exhash: ", text=b"refused 41\n", user=USERS[0])
+        room.is_let_be(calling("get", key_of(1)), REFUSED, user=USERS[0])
         os.chmod(room.folder, SHARED_FOLDER)
         room.has(LATER)
 
@@ -279,12 +283,12 @@ def full_disk(program, _, alone):
         with small_room(program, alone) as room:
             filler = room.at("filler")
             fill(filler, left)
-            done = room.run(["put", PLACE, key, "v"])
+            done = room.run(calling("put", key, "v"))
             if done.returncode not in (0, 1) or (done.returncode == 1) != bool(done.stderr):
                 raise Wrong(f"{left} blocks: status {done.returncode}: {done.stdout} {done.stderr[:200]}")
             filler.unlink()
             room.has({**PAIRS, key: "v"} if done.returncode == 0 else PAIRS)
-            room.wants(["put", PLACE, key, "w"], 0)
+            room.wants(calling("put", key, "w"), 0)
             room.has({**PAIRS, key: "w"})
             room.has_no_log()
 

@@ -112,7 +112,7 @@ def altered(lines, kind, command="serve"):
 def saved_by(words):
     """The file that a run with these words saves, if it is a script that is saved or a put."""
     if words[0] == "put":
-        return next(word for word in words[1:] if word != "--")
+        return next(word for word in words[1:] if word not in ("--", "--hex"))
     return words[-1] if "--save" in words else None
 
 

@@ -16,7 +16,7 @@ one= differs a
 one> swap #20 c d
 one= none
 one> put # c
-one= refused: a key has at least one byte
+one= refused: a key has at least one byte (refused 12)
 one> len
 one= len 3
 one> pairs

@@ -1,8 +1,8 @@
 # Calls that go directly to a file: each is a commit. A file of version 2 is read by them, and not changed.
 one> direct people.exh put ann red
-one= refused: nothing is there
+one= refused: no page file is there: `exhash create` makes one (refused 41)
 one> direct people.exh get ann
-one= refused: nothing is there
+one= refused: no page file is there: `exhash create` makes one (refused 41)
 ! files
 = old.exh
 one> create people.exh 16 0 sha
@@ -53,13 +53,13 @@ one= is #
 one> direct old.exh get #80
 one= is b
 one> direct old.exh remove #80
-one= refused: the page file is of a version that isn't changed in place
+one= refused: it is a page file of a version that isn't changed in place: open it as a store
 one> direct old.exh put #80 c
-one= refused: the page file is of a version that isn't changed in place
+one= refused: it is a page file of a version that isn't changed in place: open it as a store
 one> direct old.exh put-new #81 c
-one= refused: the page file is of a version that isn't changed in place
+one= refused: it is a page file of a version that isn't changed in place: open it as a store
 one> direct old.exh replace #80 c
-one= refused: the page file is of a version that isn't changed in place
+one= refused: it is a page file of a version that isn't changed in place: open it as a store
 ! same old.exh before.exh
 ! files
 = before.exh

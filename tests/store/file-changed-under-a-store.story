@@ -5,12 +5,12 @@ one> put @ y
 one= was x
 ! copy other.exh three.exh
 one> commit
-one= refused: it was changed by others
+one= refused: it was changed by others meanwhile: try again
 ! same other.exh three.exh
 one> get @
 one= is y
 one> close
-one= refused: it was changed by others
+one= refused: it was changed by others meanwhile: try again
 ! same other.exh three.exh
 ! files
 = other.exh

@@ -6,7 +6,7 @@ one> put @ y
 one= was x
 ! move three.exh moved.exh
 one> commit
-one= refused: the file is no longer at its path
+one= refused: the file is no longer at its path, and nothing was saved
 one> get @
 one= is y
 ! files
@@ -14,7 +14,7 @@ one= is y
 = other.exh
 ! copy other.exh three.exh
 one> commit
-one= refused: the file is no longer at its path
+one= refused: the file is no longer at its path, and nothing was saved
 ! same other.exh three.exh
 ! remove three.exh
 ! move moved.exh three.exh
@@ -32,9 +32,9 @@ one> put @ z
 one= was y
 ! remove three.exh
 one> commit
-one= refused: the file is no longer at its path
+one= refused: the file is no longer at its path, and nothing was saved
 one> close
-one= refused: the file is no longer at its path
+one= refused: the file is no longer at its path, and nothing was saved
 ! files
 = other.exh
 # Other bytes in the same file, of another stamp.
@@ -46,7 +46,7 @@ one= was x
 ! copy three.exh before.exh
 ! turn three.exh 84
 one> commit
-one= refused: block 0: the digest isn't that of the content
+one= refused: block 0 is damaged (refused 34 at 0)
 ! turn three.exh 84
 ! same three.exh before.exh
 one> drop

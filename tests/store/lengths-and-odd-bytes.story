@@ -2,31 +2,31 @@
 one> create people.exh 2 1 sha
 one= done
 one> get #
-one= refused: a key has at least one byte
+one= refused: a key has at least one byte (refused 12)
 one> put # v
-one= refused: a key has at least one byte
+one= refused: a key has at least one byte (refused 12)
 one> remove #
-one= refused: a key has at least one byte
+one= refused: a key has at least one byte (refused 12)
 one> swap # a b
-one= refused: a key has at least one byte
+one= refused: a key has at least one byte (refused 12)
 one> put-new # v
-one= refused: a key has at least one byte
+one= refused: a key has at least one byte (refused 12)
 one> replace # v
-one= refused: a key has at least one byte
+one= refused: a key has at least one byte (refused 12)
 one> get kkkkkkkkkkkkkkkkkkkkkkkkkkkkkkkkkkkkkkkkkkkkkkkkkkkkkkkkkkkkkkkkk
-one= refused: a key has at most 64 bytes, and not 65
+one= refused: a key has at most 64 bytes, and this one has 65 (refused 12)
 one> put kkkkkkkkkkkkkkkkkkkkkkkkkkkkkkkkkkkkkkkkkkkkkkkkkkkkkkkkkkkkkkkkk v
-one= refused: a key has at most 64 bytes, and not 65
+one= refused: a key has at most 64 bytes, and this one has 65 (refused 12)
 one> put k vvvvvvvvvvvvvvvvvvvvvvvvvvvvvvvvvvvvvvvvvvvvvvvvvvvvvvvvvvvvvvvvvvvvvvvvvvvvvvvvvvvvvvvvvvvvvvvvvvvvvvvvvvvvvvvvvvvvvvvvvvvvvvvvv
-one= refused: a value has at most 128 bytes, and not 129
+one= refused: a value has at most 128 bytes, and this one has 129 (refused 12)
 one> put-new k vvvvvvvvvvvvvvvvvvvvvvvvvvvvvvvvvvvvvvvvvvvvvvvvvvvvvvvvvvvvvvvvvvvvvvvvvvvvvvvvvvvvvvvvvvvvvvvvvvvvvvvvvvvvvvvvvvvvvvvvvvvvvvvvv
-one= refused: a value has at most 128 bytes, and not 129
+one= refused: a value has at most 128 bytes, and this one has 129 (refused 12)
 one> replace k vvvvvvvvvvvvvvvvvvvvvvvvvvvvvvvvvvvvvvvvvvvvvvvvvvvvvvvvvvvvvvvvvvvvvvvvvvvvvvvvvvvvvvvvvvvvvvvvvvvvvvvvvvvvvvvvvvvvvvvvvvvvvvvvv
-one= refused: a value has at most 128 bytes, and not 129
+one= refused: a value has at most 128 bytes, and this one has 129 (refused 12)
 one> swap k vvvvvvvvvvvvvvvvvvvvvvvvvvvvvvvvvvvvvvvvvvvvvvvvvvvvvvvvvvvvvvvvvvvvvvvvvvvvvvvvvvvvvvvvvvvvvvvvvvvvvvvvvvvvvvvvvvvvvvvvvvvvvvvvv v
-one= refused: a value has at most 128 bytes, and not 129
+one= refused: a value has at most 128 bytes, and this one has 129 (refused 12)
 one> swap k v vvvvvvvvvvvvvvvvvvvvvvvvvvvvvvvvvvvvvvvvvvvvvvvvvvvvvvvvvvvvvvvvvvvvvvvvvvvvvvvvvvvvvvvvvvvvvvvvvvvvvvvvvvvvvvvvvvvvvvvvvvvvvvvvv
-one= refused: a value has at most 128 bytes, and not 129
+one= refused: a value has at most 128 bytes, and this one has 129 (refused 12)
 one> len
 one= len 0
 one> put kkkkkkkkkkkkkkkkkkkkkkkkkkkkkkkkkkkkkkkkkkkkkkkkkkkkkkkkkkkkkkkk vvvvvvvvvvvvvvvvvvvvvvvvvvvvvvvvvvvvvvvvvvvvvvvvvvvvvvvvvvvvvvvvvvvvvvvvvvvvvvvvvvvvvvvvvvvvvvvvvvvvvvvvvvvvvvvvvvvvvvvvvvvvvvvv
@@ -70,11 +70,11 @@ two= is #c328
 two> get #23
 two= is #23
 two> direct people.exh get #
-two= refused: a key has at least one byte
+two= refused: a key has at least one byte (refused 12)
 two> direct people.exh get #0000000000000000000000000000000000000000000000000000000000000000000000000000000000000000000000000000000000000000000000000000000000
-two= refused: a key has at most 64 bytes, and not 65
+two= refused: a key has at most 64 bytes, and this one has 65 (refused 12)
 two> direct people.exh put k vvvvvvvvvvvvvvvvvvvvvvvvvvvvvvvvvvvvvvvvvvvvvvvvvvvvvvvvvvvvvvvvvvvvvvvvvvvvvvvvvvvvvvvvvvvvvvvvvvvvvvvvvvvvvvvvvvvvvvvvvvvvvvvvv
-two= refused: a value has at most 128 bytes, and not 129
+two= refused: a value has at most 128 bytes, and this one has 129 (refused 12)
 two> direct people.exh get kkkkkkkkkkkkkkkkkkkkkkkkkkkkkkkkkkkkkkkkkkkkkkkkkkkkkkkkkkkkkkkk
 two= is vvvvvvvvvvvvvvvvvvvvvvvvvvvvvvvvvvvvvvvvvvvvvvvvvvvvvvvvvvvvvvvvvvvvvvvvvvvvvvvvvvvvvvvvvvvvvvvvvvvvvvvvvvvvvvvvvvvvvvvvvvvvvvvv
 two> direct people.exh get #ff

@@ -8,7 +8,7 @@ one= was x
 ! remove link.exh
 ! link link.exh other.exh
 one> commit
-one= refused: the file is no longer at its path
+one= refused: the file is no longer at its path, and nothing was saved
 ! same three.exh kept.exh
 ! remove link.exh
 ! link link.exh three.exh

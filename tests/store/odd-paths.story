@@ -6,30 +6,30 @@
 ! link lost.exh nowhere/people.exh
 ! link round.exh round.exh
 one> open folder
-one= refused: not a regular file
+one= refused: not a regular file (refused 41)
 one> direct folder get k
-one= refused: not a regular file
+one= refused: not a regular file (refused 41)
 one> open-read folder
-one= refused: not a regular file
+one= refused: not a regular file (refused 41)
 one> create folder 2 0 plain
-one= refused: something is there already
+one= refused: something is there already, and stays
 one> open pipe 0
-one= refused: not a regular file
+one= refused: not a regular file (refused 41)
 one> direct pipe put k v
-one= refused: not a regular file
+one= refused: not a regular file (refused 41)
 one> create pipe 2 0 plain
-one= refused: something is there already
+one= refused: something is there already, and stays
 one> open empty.exh
-one= refused: nothing is there
+one= refused: no page file is there: `exhash create` makes one (refused 41)
 one> direct empty.exh get k
-one= refused: nothing is there
+one= refused: no page file is there: `exhash create` makes one (refused 41)
 one> open empty.exh/people.exh
-one= refused: Not a directory (os error 20)
+one= refused: Not a directory (os error 20) (refused 41)
 one> create lost.exh 2 0 plain
-one= refused: something is there already
+one= refused: something is there already, and stays
 # A link to nothing isn't followed to make a file, and one to a file leads there.
 one> open link.exh
-one= refused: nothing is there
+one= refused: no page file is there: `exhash create` makes one (refused 41)
 one> create people.exh 2 0 plain
 one= done
 one> put k v
@@ -43,7 +43,7 @@ one= new
 one> commit
 one= done
 two> open people.exh 0
-two= refused: another process is at work on it
+two= refused: another process is at work on it: try again, or wait longer
 one> drop
 one= done
 ! pairs people.exh
@@ -74,4 +74,4 @@ one= done
 ! pairs nnnnnnnnnnnnnnnnnnnnnnnnnnnnnnnnnnnnnnnnnnnnnnnnnnnnnnnnnnnnnnnnnnnnnnnnnnnnnnnnnnnnnnnnnnnnnnnnnnnnnnnnnnnnnnnnnnnnnnnnnnnnnnnnnnnnnnnnnnnnnnnnnnnnnnnnnnnnnnnnnnnnnnnnnnnnnnnnnnnnnnnnnnnnnnnnnnnnnnnnnnnnnnnnnnnnnnnnnnnnnnnnnnnnnnnnnnnnnnnnnnnnnnn
 = k v
 one> create nnnnnnnnnnnnnnnnnnnnnnnnnnnnnnnnnnnnnnnnnnnnnnnnnnnnnnnnnnnnnnnnnnnnnnnnnnnnnnnnnnnnnnnnnnnnnnnnnnnnnnnnnnnnnnnnnnnnnnnnnnnnnnnnnnnnnnnnnnnnnnnnnnnnnnnnnnnnnnnnnnnnnnnnnnnnnnnnnnnnnnnnnnnnnnnnnnnnnnnnnnnnnnnnnnnnnnnnnnnnnnnnnnnnnnnnnnnnnnnnnnnnnnnnnnnnnnnn 2 0 plain
-one= refused: File name too long (os error 36)
+one= refused: File name too long (os error 36) (refused 41)

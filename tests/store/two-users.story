@@ -9,7 +9,7 @@ ann= new
 ann> commit
 ann= done
 bob> open people.exh 0
-bob= refused: another process is at work on it
+bob= refused: another process is at work on it: try again, or wait longer
 ann> close
 ann= done
 bob> open people.exh 0
@@ -27,11 +27,11 @@ bob= is green
 = bob blue
 ! mode people.exh 600
 bob> open people.exh
-bob= refused: Permission denied (os error 13)
+bob= refused: Permission denied (os error 13) (refused 41)
 bob> direct people.exh get ann
-bob= refused: Permission denied (os error 13)
+bob= refused: Permission denied (os error 13) (refused 41)
 bob> open-read people.exh
-bob= refused: Permission denied (os error 13)
+bob= refused: Permission denied (os error 13) (refused 41)
 ann> open people.exh 0
 ann= done
 ann> close
@@ -46,5 +46,5 @@ bob= pairs ann green bob blue
 bob> direct people.exh get bob
 bob= is blue
 bob> direct people.exh put bob grey
-bob= refused: Permission denied (os error 13)
+bob= refused: Permission denied (os error 13) (refused 41)
 ! same people.exh kept.exh

@@ -3,4 +3,3 @@ pub mod LastLine
 pub mod OpenRun
 pub mod FileRun
 pub mod PairsAgain
-pub mod GetRun

@@ -2,10 +2,9 @@
 ghost use Rattle.std.specs.Prelude.{◌≡◌, ◌⊎◌, [], IfErr, IfOk, IsErrAnd, IsFalse};
 ghost use Rattle.exh_stream.specs.Output.{SameWriter, held, pending, writer_failed};
 ghost use Rattle.exh_answer.specs.LastLine.{PrintsLine, memory_line};
-ghost use Rattle.exh_answer.specs.OpenRun.{EndsUnopened, OpensOrTells, open_refusal_line};
+ghost use Rattle.exh_answer.specs.OpenRun.{IsUnread, OpensOrTells, open_refusal_line};
 
 use crate::last_line::{OUT_OF_MEMORY, UNOPENED, print_last};
-use crate::status::Status;
 use crate::stores::FileWards;
 use exh_file::{FileForm, OpenFault, open_form};
 use exh_report::push_refusal;
@@ -15,29 +14,38 @@ use std::alloc::{AllocError, Global};
 use std::io;
 use std::io::{Read, Write};
 
+/// Why a page file isn't opened as wards, which is told.
+#[derive(Clone, Copy, Debug)]
+pub enum Unopened {
+    /// The system doesn't open it.
+    Unread,
+    /// It is refused.
+    Refused(OpenFault),
+}
+
 /// Opens a page file as wards, with how it has its pages in places; `opened` is the result of opening it. A file that is
 /// refused is refused on `output`, which holds nothing back and whose writer hasn't failed: by the line of `check`, or
 /// after want of memory by `refused 10`.
 ///
-/// An `Err`: the status with which the program ends, always `Refused`.
+/// An `Err`: why it isn't opened. The program ends with `Refused`.
 pub fn open_file<F: Read + Drop, W: Write>(
     alloc: Global,
     opened: io::Result<F>,
     output: &mut Output<'_, W>,
-) -> Result<(FileWards, FileForm), Status>
+) -> Result<(FileWards, FileForm), Unopened>
     requires open { IsFalse (writer_failed output.old) }
     requires empty { pending output.old ≡ [] }
     ensures same_writer { SameWriter output.old output.new }
     ensures read { IfOk opened (λ file.
         OpensOrTells (held W.contents output.old) (held W.contents output.new) (writer_failed output.new) (F.remaining file) result) }
     ensures unopened { IfErr opened (λ fault. IsErrAnd result
-        (EndsUnopened (held W.contents output.old) (held W.contents output.new) (writer_failed output.new))) }
+        (IsUnread (held W.contents output.old) (held W.contents output.new) (writer_failed output.new))) }
 {
     match opened {
         Ok(mut file) => open_bytes(alloc, &mut file, output),
         Err(_) => {
             print_last(output, UNOPENED);
-            Err(Status::Refused)
+            Err(Unopened::Unread)
         }
     }
 }
@@ -47,7 +55,7 @@ fn open_bytes<R: Read, W: Write>(
     alloc: Global,
     reader: &mut R,
     output: &mut Output<'_, W>,
-) -> Result<(FileWards, FileForm), Status>
+) -> Result<(FileWards, FileForm), Unopened>
     requires open { IsFalse (writer_failed output.old) }
     requires empty { pending output.old ≡ [] }
     ensures same_writer { SameWriter output.old output.new }
@@ -57,7 +65,7 @@ fn open_bytes<R: Read, W: Write>(
         Ok(opened) => Ok(opened),
         Err(fault) => {
             tell_fault(alloc, fault, output);
-            Err(Status::Refused)
+            Err(Unopened::Refused(fault))
         }
     }
 }

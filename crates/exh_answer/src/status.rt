@@ -16,8 +16,10 @@ pub enum Status {
     Refused,
     /// The command line names no job: 2.
     WrongWords,
-    /// The file hasn't the key that is asked for, or stays as it was: 3.
+    /// The file hasn't the key that is asked for, or stays as it was; or something is at a new path: 3.
     Missing,
+    /// Another process had the file all the while, or changed it again and again while it was read: 4.
+    Busy,
 }
 
 impl Status {
@@ -50,6 +52,7 @@ impl Status {
             Status::Refused => 1,
             Status::WrongWords => 2,
             Status::Missing => 3,
+            Status::Busy => 4,
         })
     }
 }

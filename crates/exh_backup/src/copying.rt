@@ -1,53 +1,65 @@
 //! Copies of page files, made beside others that change them.
 
 use crate::BackupFault;
+use crate::beside::Beside;
 use crate::source::{opened_at, see_old_version};
 use exh_codec::BLOCK_LEN;
 use exh_disk::folder_of;
 use exh_in_place::{Reading, Refused, hold_still, read_one_state};
 use exh_map::StoreError;
 use exh_path::open_above;
-use exh_system::{InPlaceFault, WAIT, is_at, lock_soon};
-use std::fs::{File, OpenOptions};
-use std::io::ErrorKind;
-use std::os::fd::AsRawFd;
-use std::os::unix::fs::{FileExt, MetadataExt, OpenOptionsExt};
+use exh_system::{InPlaceFault, WAIT};
+use std::fs::File;
+use std::os::unix::fs::FileExt;
 use std::{fs, io};
 
-// The descriptors below are those of the standard streams.
-const FIRST: i32 = 3;
-
-// The bits of a mode that say who may do what.
-const PERMISSIONS: u32 = 0o777;
-
 /// Copies the page file of a path, of any version, byte for byte to a new path at which nothing is: all of one state, also
-/// beside others that change it. They are kept out meanwhile; where one has the writers' lock all the while, as an open store
-/// does, the file is copied until it stands still. The copy begins as a page file only once all of it is on the disk. Where
-/// its folder can't be synchronized a fault of the machine may take it away.
+/// beside others that change it. They are kept out for up to five seconds; where one has the writers' lock all the while, as an
+/// open store does, the file is read until all of it is one state. The copy is written beside the new path, and linked there
+/// once all of it is on the disk. Where its folder can't be synchronized a fault of the machine may take it away.
 ///
-/// `Copy(Exists)`: something is at the new path. Others: as they say, and nothing is left there.
+/// `Copy(Exists)`: something is at the new path. `Copy(Busy)`: another process is at work there. Others: as they say. Nothing is
+/// left at the new path.
 pub fn backup(rt: &HostRuntime, path: &str, new: &str) -> Result<(), BackupFault> {
-    if fs::symlink_metadata(rt, new).is_ok() {
-        return Err(BackupFault::Copy(StoreError::Exists));
-    }
-    let source = match held_still(rt, path) {
+    backup_within(rt, path, new, WAIT)
+}
+
+/// The same, and waits for others for so many seconds.
+pub fn backup_within(
+    rt: &HostRuntime,
+    path: &str,
+    new: &str,
+    seconds: u64,
+) -> Result<(), BackupFault> {
+    see_free(rt, new)?;
+    let source = match held_still(rt, path, seconds) {
         Ok(source) => source,
         Err(fault) => return Err(BackupFault::File(fault)),
     };
-    let copy = match made_new(rt, &source.file, new) {
-        Ok(copy) => copy,
+    let beside = match Beside::made(rt, &source.file, new, seconds) {
+        Ok(beside) => beside,
         Err(fault) => return Err(BackupFault::Copy(fault)),
     };
-    match fill(rt, path, &source, &copy, new) {
-        Ok(()) => {
-            let _ = synchronize_folder(rt, new);
-            Ok(())
-        }
-        Err(BackupFault::Copy(StoreError::Exists)) => Err(BackupFault::Copy(StoreError::Exists)),
+    match fill(rt, path, &source, beside.file(), seconds) {
+        Ok(()) => match beside.place(rt, new) {
+            Ok(()) => {
+                let _ = synchronize_folder(rt, new);
+                Ok(())
+            }
+            Err(fault) => Err(BackupFault::Copy(fault)),
+        },
         Err(fault) => {
-            let _ = fs::remove_file(rt, new);
+            beside.remove(rt);
             Err(fault)
         }
+    }
+}
+
+// Sees that nothing is at a new path.
+fn see_free(rt: &HostRuntime, new: &str) -> Result<(), BackupFault> {
+    match fs::symlink_metadata(rt, new) {
+        Ok(_) => Err(BackupFault::Copy(StoreError::Exists)),
+        Err(_) => Ok(()),
     }
 }
 
@@ -63,9 +75,9 @@ struct Source {
 }
 
 // The page file of a path, from which writers are kept, unless one has the lock all the while.
-fn held_still(rt: &HostRuntime, path: &str) -> Result<Source, StoreError> {
+fn held_still(rt: &HostRuntime, path: &str, seconds: u64) -> Result<Source, StoreError> {
     let file = opened_at(rt, path)?;
-    let is_still = match hold_still(rt, path, &file, WAIT) {
+    let is_still = match hold_still(rt, path, &file, seconds) {
         Ok(true) => true,
         Ok(false) => {
             see_old_version(&file)?;
@@ -77,61 +89,22 @@ fn held_still(rt: &HostRuntime, path: &str) -> Result<Source, StoreError> {
     Ok(Source { file, is_still })
 }
 
-// An empty file at a path at which nothing is, with the permissions of another one.
-fn made_new(rt: &HostRuntime, like: &File, new: &str) -> Result<File, StoreError> {
-    let mut options = OpenOptions::new();
-    options
-        .write(true)
-        .create_new(true)
-        .mode(like.metadata()?.mode() & PERMISSIONS);
-    match options.open(rt, new) {
-        Ok(made) => Ok(above(made)?),
-        Err(error) if error.kind() == ErrorKind::AlreadyExists => Err(StoreError::Exists),
-        Err(error) => Err(StoreError::from(error)),
-    }
-}
-
-// The same file, by a descriptor that no standard stream has.
-fn above(file: File) -> io::Result<File> {
-    if file.as_raw_fd() < FIRST {
-        file.try_clone()
-    } else {
-        Ok(file)
-    }
-}
-
-// Copies a page file into a file that was just made at a path, under the writers' lock of that.
-//
-// `Copy(Exists)`: another run has it already.
+// Copies a page file into an empty file.
 fn fill(
     rt: &HostRuntime,
     path: &str,
     source: &Source,
     copy: &File,
-    new: &str,
+    seconds: u64,
 ) -> Result<(), BackupFault> {
-    match own(rt, copy, new) {
-        Ok(true) => {}
-        Ok(false) => return Err(BackupFault::Copy(StoreError::Exists)),
-        Err(fault) => return Err(BackupFault::Copy(fault)),
-    }
     let first = if source.is_still {
         copy_rest(&source.file, copy)?
     } else {
-        copy_state(rt, path, copy)?
+        copy_state(rt, path, copy, seconds)?
     };
     synchronize(copy)?;
     write_block(copy, 0, &first)?;
     synchronize(copy)
-}
-
-// Whether a file that was just made at a path is locked now, and still there.
-fn own(rt: &HostRuntime, copy: &File, new: &str) -> Result<bool, StoreError> {
-    match lock_soon(rt, copy, 0) {
-        Ok(()) => Ok(is_at(rt, copy, new)?),
-        Err(InPlaceFault::Busy) => Ok(false),
-        Err(fault) => Err(StoreError::from(fault)),
-    }
 }
 
 // A file that gets all blocks but the first.
@@ -150,8 +123,13 @@ impl Reading for Rest<'_> {
 
 // Copies all blocks but the first of one state of the page file of a path that another process may change, and gives the
 // first.
-fn copy_state(rt: &HostRuntime, path: &str, copy: &File) -> Result<[u8; BLOCK_LEN], BackupFault> {
-    match read_one_state(rt, path, &mut Rest { copy }, WAIT) {
+fn copy_state(
+    rt: &HostRuntime,
+    path: &str,
+    copy: &File,
+    seconds: u64,
+) -> Result<[u8; BLOCK_LEN], BackupFault> {
+    match read_one_state(rt, path, &mut Rest { copy }, seconds) {
         Ok(found) => found,
         Err(refused) => Err(BackupFault::File(StoreError::from(refused))),
     }

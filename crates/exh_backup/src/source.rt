@@ -6,9 +6,13 @@ use exh_codec::BLOCK_LEN;
 use exh_format::{Header, version_in};
 use exh_map::StoreError;
 use exh_system::open_regular;
+use std::fs;
 use std::fs::File;
 use std::io::ErrorKind;
 use std::os::unix::fs::FileExt;
+
+// The bytes that a page file begins with.
+const MAGIC: [u8; 8] = *b"EXHASHPF";
 
 /// Opens the file of a path.
 ///
@@ -36,7 +40,53 @@ pub fn see_old_version(file: &File) -> Result<(), StoreError>
             Ok(_) => Ok(()),
             Err(fault) => Err(StoreError::from(fault)),
         },
-        Err(error) if error.kind() == ErrorKind::UnexpectedEof => Err(StoreError::Truncated),
+        Err(error) if error.kind() == ErrorKind::UnexpectedEof => {
+            Err(unread_file(file, StoreError::Truncated))
+        }
         Err(error) => Err(StoreError::from(error)),
+    }
+}
+
+/// Why the file of a path isn't read, where this is the cause: that nothing is there, where the system found nothing; that it is
+/// no page file, where it is empty, or ends too early and doesn't begin as one.
+pub fn unread_at(rt: &HostRuntime, path: &str, cause: StoreError) -> StoreError
+    ensures { IsOther cause → IsOther result }
+{
+    match cause {
+        StoreError::Io(error) if error.kind() == ErrorKind::NotFound => StoreError::Absent,
+        StoreError::Absent if is_empty_at(rt, path) => StoreError::NoHeader,
+        StoreError::Truncated => match open_regular(rt, path) {
+            Ok(file) => unread_file(&file, StoreError::Truncated),
+            Err(_) => StoreError::Truncated,
+        },
+        cause => cause,
+    }
+}
+
+/// Why an open file isn't read, where this is the cause: that it is no page file, where it ends too early and doesn't begin as
+/// one.
+pub fn unread_file(file: &File, cause: StoreError) -> StoreError
+    ensures { IsOther cause → IsOther result }
+{
+    match cause {
+        StoreError::Truncated if !begins_as_page_file(file) => StoreError::NoHeader,
+        cause => cause,
+    }
+}
+
+// Whether an empty file is at a path.
+fn is_empty_at(rt: &HostRuntime, path: &str) -> bool {
+    match fs::metadata(rt, path) {
+        Ok(about) => about.is_file() && about.len() == 0,
+        Err(_) => false,
+    }
+}
+
+// Whether an open file begins as a page file does.
+fn begins_as_page_file(file: &File) -> bool {
+    let mut front = [0; 8];
+    match file.read_exact_at(&mut front, 0) {
+        Ok(()) => front == MAGIC,
+        Err(_) => false,
     }
 }

@@ -1,10 +1,12 @@
-ghost use Rattle.std.specs.Prelude.{◌≡◌, ℕ, List, Some, IfOk, MatchResult};
+ghost use Rattle.std.specs.Prelude.{◌≡◌, ◌/◌, ℕ, List, [], Some, length, IfOk, MatchResult};
 ghost use Rattle.exh_table.specs.Table.{TableMap};
+ghost use Rattle.exh_codec.specs.declared.block.TheConstants.{BLOCK_LEN};
 ghost use Rattle.exh_format.specs.Reading.{AreBytes};
 ghost use Rattle.exh_cells.specs.LegalPlaced.{IsLegalPlacedFile};
 ghost use Rattle.exh_cells.specs.PlacedFile.{PlacedFile};
 ghost use Rattle.exh_direct.specs.DirectLaws.{IsOtherFault};
 ghost use Rattle.exh_edits.specs.EditLists.{HaveOwnPlaces};
+ghost use Rattle.exh_edits.specs.EditsInTurn.{AreInTurn};
 ghost use Rattle.exh_change.specs.ChangeLaws.{map_then, reply_in};
 ghost use Rattle.exh_batch.specs.Batch.{IsChangeByAll, map_then_all, replies_in};
 ghost use Rattle.exh_batch.specs.Overlay.{shown};
@@ -21,8 +23,8 @@ use std::alloc::Global;
 use std::marker::Brand;
 
 /// What calls are answered over a page file of version 3, one after the other, and the blocks that change with all of them
-/// together, of which the header's has the new stamp, and before it the file's own; none where the map stays. It takes memory
-/// for what each call takes, for the replies, and for a block of each place that changes.
+/// together, of which the header's has the new stamp, and before it the file's own; none where the map stays, as without a
+/// call. It takes memory for what each call takes, for the replies, and for a block of each place that changes.
 ///
 /// `File`: a block that is read ends early or fails a test, or the file hasn't as many blocks as its header tells. `Astray`: the
 /// file isn't legal. `Read`: a block couldn't be read. `Memory`: a growth was refused. That the file is legal isn't asked.
@@ -32,7 +34,9 @@ pub fn change_all<B: Blocks>(
     calls: &[Call],
     stamp: u64,
 ) -> Result<ChangedAll, DirectFault>
+    ensures none { calls.now ≡ [] → IfOk result (λ changed. changed.edits.items ≡ []) }
     ensures own { IfOk result (λ changed. HaveOwnPlaces changed.edits.items) }
+    ensures turn { (bytes : List ℕ) → B.known blocks.old ≡ Some bytes → IfOk result (λ changed. (count : ℕ) × AreInTurn (length bytes / BLOCK_LEN) changed.edits.items count) }
     ensures legal { (file : PlacedFile) (tables : List TableMap) (bytes : List ℕ) → B.known blocks.old ≡ Some bytes → AreBytes bytes → IsLegalPlacedFile file tables bytes
         → MatchResult result (IsChangeByAll file bytes calls.now stamp) IsOtherFault }
 {
@@ -47,12 +51,17 @@ fn change_over<B: Blocks, K: Under>(
     stamp: u64,
 ) -> Result<ChangedAll, DirectFault>
     requires { B.known blocks.old ≡ K.known }
+    ensures none { calls.now ≡ [] → IfOk result (λ changed. changed.edits.items ≡ []) }
     ensures own { IfOk result (λ changed. HaveOwnPlaces changed.edits.items) }
+    ensures turn { (bytes : List ℕ) → K.known ≡ Some bytes → IfOk result (λ changed. (count : ℕ) × AreInTurn (length bytes / BLOCK_LEN) changed.edits.items count) }
     ensures legal { (file : PlacedFile) (tables : List TableMap) (bytes : List ℕ) → K.known ≡ Some bytes → AreBytes bytes → IsLegalPlacedFile file tables bytes
         → MatchResult result (IsChangeByAll file bytes calls.now stamp) IsOtherFault }
 {
     let mut overlay = Overlay::<B, K>::new(alloc, blocks);
     let header = overlay.header()?;
+    if calls.is_empty() {
+        return Ok(unchanged(alloc, header.stamp));
+    }
     let replies = answer_all(alloc, &mut overlay, calls, stamp)?;
     let now = restamp(&mut overlay, header.stamp, stamp)?;
     Ok(ChangedAll {
@@ -60,6 +69,19 @@ fn change_over<B: Blocks, K: Under>(
         stamp: now,
         edits: overlay.into_edits(),
     })
+}
+
+// What no calls make of a file that has this stamp.
+fn unchanged(alloc: Global, stamp: u64) -> ChangedAll
+    ensures replies { result.replies.items ≡ [] }
+    ensures stamp { result.stamp ≡ stamp }
+    ensures edits { result.edits.items ≡ [] }
+{
+    ChangedAll {
+        replies: Vec::new(alloc),
+        stamp,
+        edits: Vec::new(alloc),
+    }
 }
 
 // Answers calls one after the other.

@@ -97,6 +97,7 @@ impl EditIndex {
     pub(crate) fn into_items(self) -> Vec<BlockEdit>
         ensures is { result.items ≡ self.items.items }
         ensures own { HaveOwnPlaces result.items }
+        ensures turn { AreInTurn self.first result.items self.count }
     {
         self.items
     }

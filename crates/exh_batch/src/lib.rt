@@ -8,7 +8,5 @@ pub use changing::change_all;
 mod changed;
 mod changing;
 mod edit_index;
-#[cfg(test)]
-mod examples;
 mod overlay;
 mod under;

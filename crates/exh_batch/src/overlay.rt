@@ -1,6 +1,7 @@
-ghost use Rattle.std.specs.Prelude.{◌≡◌, ◌+◌, ◌≤◌, ℕ, List, [], Some, max, IfErr, IfOk, MatchResult, OnOk};
+ghost use Rattle.std.specs.Prelude.{◌≡◌, ◌+◌, ◌/◌, ◌≤◌, ℕ, List, [], Some, length, max, IfErr, IfOk, MatchResult, OnOk};
 ghost use Rattle.std.specs.Option.{option_map};
 ghost use Rattle.std.specs.List.{AllByRecursion};
+ghost use Rattle.exh_codec.specs.declared.block.TheConstants.{BLOCK_LEN};
 ghost use Rattle.exh_format.specs.Reading.{IsBlock};
 ghost use Rattle.exh_cells.specs.PlacedFile.{IsPlacedFile, PlacedFile, stamped_block};
 ghost use Rattle.exh_cells.specs.StampedHeader.{IsStampedHeader};
@@ -99,10 +100,11 @@ impl<'b, B: Blocks, K: Under> Overlay<'b, B, K> {
         self.edits.put(edit)
     }
 
-    /// The edits, at most one of a place.
+    /// The edits, at most one of a place, each of a block that is there by then, or of the next one.
     pub(crate) fn into_edits(self) -> Vec<BlockEdit>
         ensures is { result.items ≡ self.entry.edits.items.items }
         ensures own { HaveOwnPlaces result.items }
+        ensures turn { (bytes : List ℕ) → K.known ≡ Some bytes → (count : ℕ) × AreInTurn (length bytes / BLOCK_LEN) result.items count }
     {
         self.edits.into_items()
     }

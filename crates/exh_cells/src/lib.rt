@@ -12,8 +12,6 @@ pub use walk_image::{decode_cells, encode_cells};
 
 mod block_laws;
 mod cell;
-#[cfg(test)]
-mod examples;
 mod fit;
 mod laws;
 mod places;

@@ -11,8 +11,6 @@ mod cells;
 mod changed;
 mod changing;
 mod draft;
-#[cfg(test)]
-mod examples;
 mod halves;
 mod merging;
 mod pages;

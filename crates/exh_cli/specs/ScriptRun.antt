@@ -10,7 +10,7 @@ use Rattle.exh_script.specs.declared.serve_fault.ServeFault.TheVariants.{Write, 
 use Rattle.exh_answer.specs.LastLine.{memory_line}
 use Rattle.exh_job.specs.declared.job_path.JobPath.{JobPath}
 use Rattle.exh_job.specs.declared.ending.Ending.{Ending}
-use Rattle.exh_job.specs.declared.ending.Ending.TheVariants.{Over, Save, SaveAndTell, SaveNew}
+use Rattle.exh_job.specs.declared.ending.Ending.TheVariants.{Over, Save, SaveNew}
 use Rattle.exh_answer.specs.declared.status.Status.{Status}
 use Rattle.exh_answer.specs.declared.status.Status.TheVariants.{Done, Refused}
 
@@ -37,7 +37,6 @@ run_status (Err stopped) = Refused
 -- for them.
 abbrev pub IsEnding : Result (Option OpenedState) ServeFault → Option JobPath → Ending → Type 0
 IsEnding outcome path (Save one wards) = (outcome ≡ Ok (Some wards)) × (path ≡ Some one)
-IsEnding outcome path (SaveAndTell one wards line) = ⊥
 IsEnding outcome path (SaveNew one wards version) = ⊥
 IsEnding (Ok (Some wards)) path (Over status) = (path ≡ None) × (status ≡ run_status (Ok (Some wards)))
 IsEnding outcome path (Over status) = status ≡ run_status outcome

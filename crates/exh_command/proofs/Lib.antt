@@ -4,8 +4,5 @@ pub mod OptionLemmas
 pub mod OptionFlags
 pub mod SetFlags
 pub mod TheProgram
-pub mod KeyWords
-pub mod PutWords
-pub mod SwapWords
 pub mod ManualWords
 pub mod ParserLemmas

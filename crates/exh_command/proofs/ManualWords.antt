@@ -16,7 +16,7 @@ use Rattle.exh_command.proofs.TheProgram.{program, serve}
 use Rattle.exh_command.proofs.WordLemmas.{Agrees, Fails, IsAsking, IsValue, agrees_as, all_ask, first_fails, help, is_end, is_plain_word, is_value, option_fails, some_is, word_fails}
 
 abbrev manual_leaf : Shape
-manual_leaf = slice_index_or (built program).subs 14 serve
+manual_leaf = slice_index_or (built program).subs 8 serve
 
 abbrev pub manual_flags : List Rule
 manual_flags = filled_from 1 (new_rule command_id ∷ help_rule ∷ [])

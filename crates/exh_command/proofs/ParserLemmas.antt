@@ -19,14 +19,11 @@ use Rattle.clap.proofs.OnLiterals.{clap_on_literals}
 use Rattle.clap.proofs.WalkLemmas.{both, first_value-rows, one_text-rows, walk_stopped}
 use Rattle.clap.proofs.FaultLemmas.{stopped_fault}
 use Rattle.exh_command.specs.CommandFault.{IsFaultOf, IsWrong, TellsVersion}
-use Rattle.exh_command.specs.Words.{Use, alone, ends_options, flags_and_path, gives, is_option, is_use_of, new_path_name, next_place, only_word, option_given, path_and_key, path_and_three, path_and_two, path_name, path_named, uses_and_path, uses_and_two_paths, uses_named, word_perhaps}
-use Rattle.exh_command.specs.Job.{AskForVersion, Asked, Serve, Check, Dump, Load, Storm, Get, Put, Del, Swap, Pairs, PairsTexts, Convert, Create, Backup, Version, Manual, asked_by, backed_by, backup_asked, callers_name, calls_name, cap_name, command_of, convert_asked, convert_names, converted_by, copies_name, create_asked, created_by, del_asked, deleted_by, get_asked, got_by, job_asked, job_named, into_name, keyer_name, load_asked, load_flags, loaded_by, long_name, manual_asked, open_name, paired_by, pairs_asked, pairs_names, put_asked, put_by, save_name, serve_asked, serve_names, served_by, storm_asked, storm_names, stormed_by, swap_asked, swapped_by, version_asked, version_name, versioned_by, wards_name}
-use Rattle.exh_command.specs.Parser.{HasFlags, HasPairsTexts, HasTexts, HasValues, IsJobMet, Meets, ReadsJobs, command_id, key_id, new_id, old_id, pairs_texts_of, path_id, path_rule, texts_of, value_id}
+use Rattle.exh_command.specs.Words.{Use, alone, ends_options, flags_and_path, gives, is_option, is_use_of, new_path_name, next_place, only_word, option_given, path_name, path_named, uses_and_path, uses_and_two_paths, uses_named, word_perhaps}
+use Rattle.exh_command.specs.Job.{AskForVersion, Asked, Serve, Check, Dump, Load, Storm, Pairs, PairsTexts, Convert, Version, Manual, asked_by, callers_name, calls_name, cap_name, command_of, convert_asked, convert_names, converted_by, copies_name, job_asked, job_named, into_name, keyer_name, load_asked, load_flags, loaded_by, long_name, manual_asked, open_name, paired_by, pairs_asked, pairs_names, save_name, serve_asked, serve_names, served_by, storm_asked, storm_names, stormed_by, version_asked, version_name, versioned_by, wards_name}
+use Rattle.exh_command.specs.Parser.{HasFlags, HasPairsTexts, HasTexts, HasValues, IsJobMet, Meets, ReadsJobs, command_id, new_id, pairs_texts_of, path_id, path_rule, texts_of}
 use Rattle.exh_command.proofs.TheProgram.{program, serve}
-use Rattle.exh_command.proofs.KeyWords.{key_agrees, key_flags, key_kinds, key_met}
-use Rattle.exh_command.proofs.PutWords.{put_agrees, put_flags, put_kinds, put_met}
 use Rattle.exh_command.proofs.ManualWords.{manual_agrees, manual_flags, manual_kinds, manual_met}
-use Rattle.exh_command.proofs.SwapWords.{swap_agrees, swap_flags, swap_kinds, swap_met}
 use Rattle.exh_command.specs.declared.fault.CliFault.{CliFault}
 use Rattle.exh_command.proofs.OptionLemmas.{IsOptionLeaf, first_of-rows_of_uses, rows_of_uses}
 use Rattle.exh_command.proofs.OptionFlags.{both_given, flags_agree, flags_met, help_asking, keeps_rows, no_defaults, one_path, option_flags, option_leaf, path_flags_of, path_keeps, path_leaf_of, two_path_flags_of, two_paths, two_paths_keep, two_paths_leaf_of}
@@ -100,7 +97,7 @@ unfolding clap_on_literals
 pairs_leaf = path_leaf_of (codes "pairs") pairs_names refl
 
 abbrev pairs_kinds : List Text → Kinds
-pairs_kinds words = level_fault (slice_index_or (built program).subs 9 serve) [] nothing_held words false []
+pairs_kinds words = level_fault (slice_index_or (built program).subs 5 serve) [] nothing_held words false []
 
 pairs_agree : (words : List Text) → Agrees (pairs_asked words) (pairs_kinds words)
 pairs_agree words = flags_agree one_path (codes "pairs") pairs_flags pairs_names [] pairs_leaf paired_by words
@@ -145,7 +142,7 @@ unfolding clap_on_literals
 convert_leaf = two_paths_leaf_of (codes "convert") convert_names refl refl
 
 abbrev convert_kinds : List Text → Kinds
-convert_kinds words = level_fault (slice_index_or (built program).subs 10 serve) [] nothing_held words false []
+convert_kinds words = level_fault (slice_index_or (built program).subs 6 serve) [] nothing_held words false []
 
 convert_agrees : (words : List Text) → Agrees (convert_asked words) (convert_kinds words)
 convert_agrees words = flags_agree two_paths (codes "convert") convert_flags convert_names [] convert_leaf converted_by words
@@ -162,50 +159,6 @@ convert_met : (words : List Text) (asked : Asked) → convert_asked words ≡ So
 convert_met words asked named =
     flags_met two_paths (codes "convert") convert_flags convert_names [] convert_leaf converted_by (λ words uses is whole. subst (HasValues (converted_by uses)) (sym (two_paths_keep convert_names (rows_of_uses uses))) (converted_values uses whole)) words asked named
 
--- ---- the words after `create`, which takes those of `pairs`
-
-create_leaf : IsOptionLeaf one_path (codes "create") pairs_flags pairs_names []
-unfolding clap_on_literals
-create_leaf = path_leaf_of (codes "create") pairs_names refl
-
-abbrev create_kinds : List Text → Kinds
-create_kinds words = level_fault (slice_index_or (built program).subs 11 serve) [] nothing_held words false []
-
-create_agrees : (words : List Text) → Agrees (create_asked words) (create_kinds words)
-create_agrees words = flags_agree one_path (codes "create") pairs_flags pairs_names [] create_leaf created_by words
-
-created_values : (uses : List Use) → next_place one_path uses ≡ None → HasValues (created_by uses) (rows_of_uses uses)
-created_values uses whole = paired_values uses whole
-
-create_met : (words : List Text) (asked : Asked) → create_asked words ≡ Some asked → HasValues asked (rows_after pairs_flags [] words)
-create_met words asked named = flags_met one_path (codes "create") pairs_flags pairs_names [] create_leaf created_by (λ words uses is whole. subst (HasValues (created_by uses)) (sym (path_keeps pairs_names (rows_of_uses uses))) (created_values uses whole)) words asked named
-
--- ---- the words after `backup`
-
-abbrev backup_flags : List Rule
-backup_flags = two_path_flags_of []
-
-backup_leaf : IsOptionLeaf two_paths (codes "backup") backup_flags [] []
-unfolding clap_on_literals
-backup_leaf = two_paths_leaf_of (codes "backup") [] refl refl
-
-abbrev backup_kinds : List Text → Kinds
-backup_kinds words = level_fault (slice_index_or (built program).subs 12 serve) [] nothing_held words false []
-
-backup_agrees : (words : List Text) → Agrees (backup_asked words) (backup_kinds words)
-backup_agrees words = flags_agree two_paths (codes "backup") backup_flags [] [] backup_leaf backed_by words
-
-backed_values : (uses : List Use) → next_place two_paths uses ≡ None → HasValues (backed_by uses) (rows_of_uses uses)
-backed_values uses whole =
-    let both = both_given (gives uses path_name) (gives uses new_path_name) whole in (
-      first_of-rows_of_uses path_name uses ∙ some_or (option_given path_name uses) (given_is path_name uses ∙ both.0),
-      first_of-rows_of_uses new_path_name uses ∙ some_or (option_given new_path_name uses) (given_is new_path_name uses ∙ both.1),
-    )
-
-backup_met : (words : List Text) (asked : Asked) → backup_asked words ≡ Some asked → HasValues asked (rows_after backup_flags [] words)
-backup_met words asked named =
-    flags_met two_paths (codes "backup") backup_flags [] [] backup_leaf backed_by (λ words uses is whole. subst (HasValues (backed_by uses)) (sym (two_paths_keep [] (rows_of_uses uses))) (backed_values uses whole)) words asked named
-
 -- ---- the words after `version`
 
 abbrev version_flags : List Rule
@@ -216,7 +169,7 @@ unfolding clap_on_literals
 version_leaf = option_leaf (codes "version") [] (λ rows. ap₂ or_else (no_defaults [] rows) refl)
 
 abbrev version_kinds : List Text → Kinds
-version_kinds words = level_fault (slice_index_or (built program).subs 13 serve) [] nothing_held words false []
+version_kinds words = level_fault (slice_index_or (built program).subs 7 serve) [] nothing_held words false []
 
 version_agrees : (words : List Text) → Agrees (version_asked words) (version_kinds words)
 version_agrees words = flags_agree [] (codes "version") version_flags [] [] version_leaf versioned_by words
@@ -430,22 +383,6 @@ storm_leaves : (words : List Text) → top_kinds (codes "storm" ∷ words) ≡ s
 unfolding clap_on_literals
 storm_leaves words = stopped_is (codes "storm") words ∙ or_nothing (storm_kinds words)
 
-get_leaves : (words : List Text) → top_kinds (codes "get" ∷ words) ≡ key_kinds words
-unfolding clap_on_literals
-get_leaves words = stopped_is (codes "get") words ∙ or_nothing (key_kinds words)
-
-put_leaves : (words : List Text) → top_kinds (codes "put" ∷ words) ≡ put_kinds words
-unfolding clap_on_literals
-put_leaves words = stopped_is (codes "put") words ∙ or_nothing (put_kinds words)
-
-del_leaves : (words : List Text) → top_kinds (codes "del" ∷ words) ≡ key_kinds words
-unfolding clap_on_literals
-del_leaves words = stopped_is (codes "del") words ∙ or_nothing (key_kinds words)
-
-swap_leaves : (words : List Text) → top_kinds (codes "swap" ∷ words) ≡ swap_kinds words
-unfolding clap_on_literals
-swap_leaves words = stopped_is (codes "swap") words ∙ or_nothing (swap_kinds words)
-
 pairs_leaves : (words : List Text) → top_kinds (codes "pairs" ∷ words) ≡ pairs_kinds words
 unfolding clap_on_literals
 pairs_leaves words = stopped_is (codes "pairs") words ∙ or_nothing (pairs_kinds words)
@@ -453,14 +390,6 @@ pairs_leaves words = stopped_is (codes "pairs") words ∙ or_nothing (pairs_kind
 convert_leaves : (words : List Text) → top_kinds (codes "convert" ∷ words) ≡ convert_kinds words
 unfolding clap_on_literals
 convert_leaves words = stopped_is (codes "convert") words ∙ or_nothing (convert_kinds words)
-
-create_leaves : (words : List Text) → top_kinds (codes "create" ∷ words) ≡ create_kinds words
-unfolding clap_on_literals
-create_leaves words = stopped_is (codes "create") words ∙ or_nothing (create_kinds words)
-
-backup_leaves : (words : List Text) → top_kinds (codes "backup" ∷ words) ≡ backup_kinds words
-unfolding clap_on_literals
-backup_leaves words = stopped_is (codes "backup") words ∙ or_nothing (backup_kinds words)
 
 version_leaves : (words : List Text) → top_kinds (codes "version" ∷ words) ≡ version_kinds words
 unfolding clap_on_literals
@@ -480,9 +409,9 @@ end_fails [] = tt
 end_fails (word ∷ rest) = tt
 
 -- a word that names no command
-module _ (word : Text) (no_serve : bytes_eq (codes "serve") word ≡ false) (no_check : bytes_eq (codes "check") word ≡ false) (no_dump : bytes_eq (codes "dump") word ≡ false) (no_load : bytes_eq (codes "load") word ≡ false) (no_storm : bytes_eq (codes "storm") word ≡ false) (no_get : bytes_eq (codes "get") word ≡ false) (no_put : bytes_eq (codes "put") word ≡ false) (no_del : bytes_eq (codes "del") word ≡ false) (no_swap : bytes_eq (codes "swap") word ≡ false) (no_pairs : bytes_eq (codes "pairs") word ≡ false) (no_convert : bytes_eq (codes "convert") word ≡ false) (no_create : bytes_eq (codes "create") word ≡ false) (no_backup : bytes_eq (codes "backup") word ≡ false) (no_version : bytes_eq (codes "version") word ≡ false) (no_manual : bytes_eq (codes "manual") word ≡ false) where
+module _ (word : Text) (no_serve : bytes_eq (codes "serve") word ≡ false) (no_check : bytes_eq (codes "check") word ≡ false) (no_dump : bytes_eq (codes "dump") word ≡ false) (no_load : bytes_eq (codes "load") word ≡ false) (no_storm : bytes_eq (codes "storm") word ≡ false) (no_pairs : bytes_eq (codes "pairs") word ≡ false) (no_convert : bytes_eq (codes "convert") word ≡ false) (no_version : bytes_eq (codes "version") word ≡ false) (no_manual : bytes_eq (codes "manual") word ≡ false) where
   unnamed : bytes_eq (codes "help") word ≡ false → subcommand_met names idle word ≡ None
-  unnamed no_help = rw (no_serve, no_check, no_dump, no_load, no_storm, no_get, no_put, no_del, no_swap, no_pairs, no_convert, no_create, no_backup, no_version, no_manual, no_help) refl
+  unnamed no_help = rw (no_serve, no_check, no_dump, no_load, no_storm, no_pairs, no_convert, no_version, no_manual, no_help) refl
 
   other_fails : (rest : List Text) (helps ends : Bool) → bytes_eq (codes "help") word ≡ helps → ends_options word ≡ ends → Fails (top_kinds (word ∷ rest))
   unfolding clap_on_literals
@@ -491,62 +420,44 @@ module _ (word : Text) (no_serve : bytes_eq (codes "serve") word ≡ false) (no_
   other_fails rest false false no_help no_end =
       first_fails _ _ (first_fails _ _ (word_fails top flags short_asking [] None 1 word refl (all_ask flags long_asking (long_of word)) names (unnamed no_help) no_end))
 
-command_agrees : (word : Text) (rest : List Text) (serves checks dumps loads storms gets puts dels swaps pairs converts creates backups versions manuals : Bool) → bytes_eq (codes "serve") word ≡ serves → bytes_eq (codes "check") word ≡ checks → bytes_eq (codes "dump") word ≡ dumps → bytes_eq (codes "load") word ≡ loads → bytes_eq (codes "storm") word ≡ storms → bytes_eq (codes "get") word ≡ gets → bytes_eq (codes "put") word ≡ puts → bytes_eq (codes "del") word ≡ dels → bytes_eq (codes "swap") word ≡ swaps → bytes_eq (codes "pairs") word ≡ pairs → bytes_eq (codes "convert") word ≡ converts → bytes_eq (codes "create") word ≡ creates → bytes_eq (codes "backup") word ≡ backups → bytes_eq (codes "version") word ≡ versions → bytes_eq (codes "manual") word ≡ manuals
-    → Agrees (cond serves (serve_asked rest) (cond checks (option_map Check (path_named rest)) (cond dumps (option_map Dump (path_named rest)) (cond loads (load_asked rest) (cond storms (storm_asked rest) (cond gets (get_asked rest) (cond puts (put_asked rest) (cond dels (del_asked rest) (cond swaps (swap_asked rest) (cond pairs (pairs_asked rest) (cond converts (convert_asked rest) (cond creates (create_asked rest) (cond backups (backup_asked rest) (cond versions (version_asked rest) (cond manuals (manual_asked rest) None)))))))))))))))
+command_agrees : (word : Text) (rest : List Text) (serves checks dumps loads storms pairs converts versions manuals : Bool) → bytes_eq (codes "serve") word ≡ serves → bytes_eq (codes "check") word ≡ checks → bytes_eq (codes "dump") word ≡ dumps → bytes_eq (codes "load") word ≡ loads → bytes_eq (codes "storm") word ≡ storms → bytes_eq (codes "pairs") word ≡ pairs → bytes_eq (codes "convert") word ≡ converts → bytes_eq (codes "version") word ≡ versions → bytes_eq (codes "manual") word ≡ manuals
+    → Agrees (cond serves (serve_asked rest) (cond checks (option_map Check (path_named rest)) (cond dumps (option_map Dump (path_named rest)) (cond loads (load_asked rest) (cond storms (storm_asked rest) (cond pairs (pairs_asked rest) (cond converts (convert_asked rest) (cond versions (version_asked rest) (cond manuals (manual_asked rest) None)))))))))
     (top_kinds (word ∷ rest))
-command_agrees word rest true checks dumps loads storms gets puts dels swaps pairs converts creates backups versions manuals s c d l o g p e w i v r b n m =
+command_agrees word rest true checks dumps loads storms pairs converts versions manuals s c d l o i v n m =
     let left = subst (Agrees (serve_asked rest)) (sym (serve_leaves rest)) (leaf_agrees rest) in
     subst (λ w. Agrees (serve_asked rest) (top_kinds (w ∷ rest))) (is_name (codes "serve") word s) left
-command_agrees word rest false true dumps loads storms gets puts dels swaps pairs converts creates backups versions manuals s c d l o g p e w i v r b n m =
+command_agrees word rest false true dumps loads storms pairs converts versions manuals s c d l o i v n m =
     let left = subst (Agrees (option_map Check (path_named rest))) (sym (check_leaves rest)) (agrees_as Check _ _ (path_agrees rest)) in
     subst (λ w. Agrees (option_map Check (path_named rest)) (top_kinds (w ∷ rest))) (is_name (codes "check") word c) left
-command_agrees word rest false false true loads storms gets puts dels swaps pairs converts creates backups versions manuals s c d l o g p e w i v r b n m =
+command_agrees word rest false false true loads storms pairs converts versions manuals s c d l o i v n m =
     let left = subst (Agrees (option_map Dump (path_named rest))) (sym (dump_leaves rest)) (agrees_as Dump _ _ (path_agrees rest)) in
     subst (λ w. Agrees (option_map Dump (path_named rest)) (top_kinds (w ∷ rest))) (is_name (codes "dump") word d) left
-command_agrees word rest false false false true storms gets puts dels swaps pairs converts creates backups versions manuals s c d l o g p e w i v r b n m =
+command_agrees word rest false false false true storms pairs converts versions manuals s c d l o i v n m =
     let left = subst (Agrees (load_asked rest)) (sym (load_leaves rest)) (load_agrees rest) in
     subst (λ w. Agrees (load_asked rest) (top_kinds (w ∷ rest))) (is_name (codes "load") word l) left
-command_agrees word rest false false false false true gets puts dels swaps pairs converts creates backups versions manuals s c d l o g p e w i v r b n m =
+command_agrees word rest false false false false true pairs converts versions manuals s c d l o i v n m =
     let left = subst (Agrees (storm_asked rest)) (sym (storm_leaves rest)) (storm_agrees rest) in
     subst (λ w. Agrees (storm_asked rest) (top_kinds (w ∷ rest))) (is_name (codes "storm") word o) left
-command_agrees word rest false false false false false true puts dels swaps pairs converts creates backups versions manuals s c d l o g p e w i v r b n m =
-    let left = subst (Agrees (get_asked rest)) (sym (get_leaves rest)) (agrees_as got_by _ _ (key_agrees rest)) in
-    subst (λ w. Agrees (get_asked rest) (top_kinds (w ∷ rest))) (is_name (codes "get") word g) left
-command_agrees word rest false false false false false false true dels swaps pairs converts creates backups versions manuals s c d l o g p e w i v r b n m =
-    let left = subst (Agrees (put_asked rest)) (sym (put_leaves rest)) (agrees_as put_by _ _ (put_agrees rest)) in
-    subst (λ w. Agrees (put_asked rest) (top_kinds (w ∷ rest))) (is_name (codes "put") word p) left
-command_agrees word rest false false false false false false false true swaps pairs converts creates backups versions manuals s c d l o g p e w i v r b n m =
-    let left = subst (Agrees (del_asked rest)) (sym (del_leaves rest)) (agrees_as deleted_by _ _ (key_agrees rest)) in
-    subst (λ w. Agrees (del_asked rest) (top_kinds (w ∷ rest))) (is_name (codes "del") word e) left
-command_agrees word rest false false false false false false false false true pairs converts creates backups versions manuals s c d l o g p e w i v r b n m =
-    let left = subst (Agrees (swap_asked rest)) (sym (swap_leaves rest)) (agrees_as swapped_by _ _ (swap_agrees rest)) in
-    subst (λ w. Agrees (swap_asked rest) (top_kinds (w ∷ rest))) (is_name (codes "swap") word w) left
-command_agrees word rest false false false false false false false false false true converts creates backups versions manuals s c d l o g p e w i v r b n m =
+command_agrees word rest false false false false false true converts versions manuals s c d l o i v n m =
     let left = subst (Agrees (pairs_asked rest)) (sym (pairs_leaves rest)) (pairs_agree rest) in
     subst (λ w. Agrees (pairs_asked rest) (top_kinds (w ∷ rest))) (is_name (codes "pairs") word i) left
-command_agrees word rest false false false false false false false false false false true creates backups versions manuals s c d l o g p e w i v r b n m =
+command_agrees word rest false false false false false false true versions manuals s c d l o i v n m =
     let left = subst (Agrees (convert_asked rest)) (sym (convert_leaves rest)) (convert_agrees rest) in
     subst (λ w. Agrees (convert_asked rest) (top_kinds (w ∷ rest))) (is_name (codes "convert") word v) left
-command_agrees word rest false false false false false false false false false false false true backups versions manuals s c d l o g p e w i v r b n m =
-    let left = subst (Agrees (create_asked rest)) (sym (create_leaves rest)) (create_agrees rest) in
-    subst (λ w. Agrees (create_asked rest) (top_kinds (w ∷ rest))) (is_name (codes "create") word r) left
-command_agrees word rest false false false false false false false false false false false false true versions manuals s c d l o g p e w i v r b n m =
-    let left = subst (Agrees (backup_asked rest)) (sym (backup_leaves rest)) (backup_agrees rest) in
-    subst (λ w. Agrees (backup_asked rest) (top_kinds (w ∷ rest))) (is_name (codes "backup") word b) left
-command_agrees word rest false false false false false false false false false false false false false true manuals s c d l o g p e w i v r b n m =
+command_agrees word rest false false false false false false false true manuals s c d l o i v n m =
     let left = subst (Agrees (version_asked rest)) (sym (version_leaves rest)) (version_agrees rest) in
     subst (λ w. Agrees (version_asked rest) (top_kinds (w ∷ rest))) (is_name (codes "version") word n) left
-command_agrees word rest false false false false false false false false false false false false false false true s c d l o g p e w i v r b n m =
+command_agrees word rest false false false false false false false false true s c d l o i v n m =
     let left = subst (Agrees (manual_asked rest)) (sym (manual_leaves rest)) (agrees_as Manual _ _ (manual_agrees rest)) in
     subst (λ w. Agrees (manual_asked rest) (top_kinds (w ∷ rest))) (is_name (codes "manual") word m) left
-command_agrees word rest false false false false false false false false false false false false false false false s c d l o g p e w i v r b n m = other_fails word s c d l o g p e w i v r b n m rest (bytes_eq (codes "help") word) (ends_options word) refl refl
+command_agrees word rest false false false false false false false false false s c d l o i v n m = other_fails word s c d l o i v n m rest (bytes_eq (codes "help") word) (ends_options word) refl refl
 
 words_agree : (words : List Text) → Agrees (asked_by words) (fault_of program words)
 unfolding clap_on_literals
 words_agree [] = tt
 words_agree (name ∷ []) = tt
 words_agree (name ∷ command ∷ rest) =
-    command_agrees command rest (bytes_eq (codes "serve") command) (bytes_eq (codes "check") command) (bytes_eq (codes "dump") command) (bytes_eq (codes "load") command) (bytes_eq (codes "storm") command) (bytes_eq (codes "get") command) (bytes_eq (codes "put") command) (bytes_eq (codes "del") command) (bytes_eq (codes "swap") command) (bytes_eq (codes "pairs") command) (bytes_eq (codes "convert") command) (bytes_eq (codes "create") command) (bytes_eq (codes "backup") command) (bytes_eq (codes "version") command) (bytes_eq (codes "manual") command) refl refl refl refl refl refl refl refl refl refl refl refl refl refl refl
+    command_agrees command rest (bytes_eq (codes "serve") command) (bytes_eq (codes "check") command) (bytes_eq (codes "dump") command) (bytes_eq (codes "load") command) (bytes_eq (codes "storm") command) (bytes_eq (codes "pairs") command) (bytes_eq (codes "convert") command) (bytes_eq (codes "version") command) (bytes_eq (codes "manual") command) refl refl refl refl refl refl refl refl refl
 
 -- ---- the command that is met, and its values
 
@@ -574,22 +485,6 @@ storm_met : (name : Text) (words : List Text) → subcommand_of program (name �
 unfolding clap_on_literals
 storm_met name words = met_at (codes "storm") words
 
-get_met : (name : Text) (words : List Text) → subcommand_of program (name ∷ codes "get" ∷ words) ≡ Some (codes "get", rows_after key_flags [] words)
-unfolding clap_on_literals
-get_met name words = met_at (codes "get") words
-
-put_command_met : (name : Text) (words : List Text) → subcommand_of program (name ∷ codes "put" ∷ words) ≡ Some (codes "put", rows_after put_flags [] words)
-unfolding clap_on_literals
-put_command_met name words = met_at (codes "put") words
-
-del_command_met : (name : Text) (words : List Text) → subcommand_of program (name ∷ codes "del" ∷ words) ≡ Some (codes "del", rows_after key_flags [] words)
-unfolding clap_on_literals
-del_command_met name words = met_at (codes "del") words
-
-swap_command_met : (name : Text) (words : List Text) → subcommand_of program (name ∷ codes "swap" ∷ words) ≡ Some (codes "swap", rows_after swap_flags [] words)
-unfolding clap_on_literals
-swap_command_met name words = met_at (codes "swap") words
-
 pairs_command_met : (name : Text) (words : List Text) → subcommand_of program (name ∷ codes "pairs" ∷ words) ≡ Some (codes "pairs", rows_after pairs_flags [] words)
 unfolding clap_on_literals
 pairs_command_met name words = met_at (codes "pairs") words
@@ -597,14 +492,6 @@ pairs_command_met name words = met_at (codes "pairs") words
 convert_command_met : (name : Text) (words : List Text) → subcommand_of program (name ∷ codes "convert" ∷ words) ≡ Some (codes "convert", rows_after convert_flags [] words)
 unfolding clap_on_literals
 convert_command_met name words = met_at (codes "convert") words
-
-create_command_met : (name : Text) (words : List Text) → subcommand_of program (name ∷ codes "create" ∷ words) ≡ Some (codes "create", rows_after pairs_flags [] words)
-unfolding clap_on_literals
-create_command_met name words = met_at (codes "create") words
-
-backup_command_met : (name : Text) (words : List Text) → subcommand_of program (name ∷ codes "backup" ∷ words) ≡ Some (codes "backup", rows_after backup_flags [] words)
-unfolding clap_on_literals
-backup_command_met name words = met_at (codes "backup") words
 
 version_command_met : (name : Text) (words : List Text) → subcommand_of program (name ∷ codes "version" ∷ words) ≡ Some (codes "version", rows_after version_flags [] words)
 unfolding clap_on_literals
@@ -647,20 +534,6 @@ convert_is_met name rest asked named = record {
   values = convert_met rest asked named;
 }
 
-create_is_met : (name : Text) (rest : List Text) (asked : Asked) → create_asked rest ≡ Some asked → Meets program (name ∷ codes "create" ∷ rest) asked
-create_is_met name rest asked named = record {
-  rows = rows_after pairs_flags [] rest;
-  met = create_command_met name rest ∙ ap (λ command. Some (command, rows_after pairs_flags [] rest)) (is_by created_by (codes "create") (λ uses. refl) (uses_and_path pairs_names rest) asked named);
-  values = create_met rest asked named;
-}
-
-backup_is_met : (name : Text) (rest : List Text) (asked : Asked) → backup_asked rest ≡ Some asked → Meets program (name ∷ codes "backup" ∷ rest) asked
-backup_is_met name rest asked named = record {
-  rows = rows_after backup_flags [] rest;
-  met = backup_command_met name rest ∙ ap (λ command. Some (command, rows_after backup_flags [] rest)) (is_by backed_by (codes "backup") (λ uses. refl) (uses_and_two_paths [] rest) asked named);
-  values = backup_met rest asked named;
-}
-
 version_is_met : (name : Text) (rest : List Text) (asked : Asked) → version_asked rest ≡ Some asked → Meets program (name ∷ codes "version" ∷ rest) asked
 version_is_met name rest asked named = record {
   rows = rows_after version_flags [] rest;
@@ -686,39 +559,6 @@ path_is_met name command of is values rest met (Some path) asked named same = su
   values = values path (rows_after path_flags [] rest) (path_met rest path named);
 })
 
--- and about a key
-get_is_met : (name : Text) (rest : List Text) (found : Option (Text × Text)) (asked : Asked) → path_and_key rest ≡ found → option_map got_by found ≡ Some asked → Meets program (name ∷ codes "get" ∷ rest) asked
-get_is_met name rest None asked named same = absurd (none-some asked same)
-get_is_met name rest (Some words) asked named same = let has = key_met rest words named in subst (Meets program (name ∷ codes "get" ∷ rest)) (some_is same) (record {
-  rows = rows_after key_flags [] rest;
-  met = get_met name rest;
-  values = (has.path, has.key);
-})
-
-put_is_met : (name : Text) (rest : List Text) (found : Option (Text × Text × Text)) (asked : Asked) → path_and_two rest ≡ found → option_map put_by found ≡ Some asked → Meets program (name ∷ codes "put" ∷ rest) asked
-put_is_met name rest None asked named same = absurd (none-some asked same)
-put_is_met name rest (Some words) asked named same = let has = put_met rest words named in subst (Meets program (name ∷ codes "put" ∷ rest)) (some_is same) (record {
-  rows = rows_after put_flags [] rest;
-  met = put_command_met name rest;
-  values = (has.path, has.key, has.value);
-})
-
-del_is_met : (name : Text) (rest : List Text) (found : Option (Text × Text)) (asked : Asked) → path_and_key rest ≡ found → option_map deleted_by found ≡ Some asked → Meets program (name ∷ codes "del" ∷ rest) asked
-del_is_met name rest None asked named same = absurd (none-some asked same)
-del_is_met name rest (Some words) asked named same = let has = key_met rest words named in subst (Meets program (name ∷ codes "del" ∷ rest)) (some_is same) (record {
-  rows = rows_after key_flags [] rest;
-  met = del_command_met name rest;
-  values = (has.path, has.key);
-})
-
-swap_is_met : (name : Text) (rest : List Text) (found : Option (Text × Text × Text × Text)) (asked : Asked) → path_and_three rest ≡ found → option_map swapped_by found ≡ Some asked → Meets program (name ∷ codes "swap" ∷ rest) asked
-swap_is_met name rest None asked named same = absurd (none-some asked same)
-swap_is_met name rest (Some words) asked named same = let has = swap_met rest words named in subst (Meets program (name ∷ codes "swap" ∷ rest)) (some_is same) (record {
-  rows = rows_after swap_flags [] rest;
-  met = swap_command_met name rest;
-  values = (has.path, has.key, has.old, has.new);
-})
-
 manual_is_met : (name : Text) (rest : List Text) (found : Option (Option Text)) (asked : Asked) → word_perhaps rest ≡ found → option_map Manual found ≡ Some asked → Meets program (name ∷ codes "manual" ∷ rest) asked
 manual_is_met name rest None asked named same = absurd (none-some asked same)
 manual_is_met name rest (Some word) asked named same = subst (Meets program (name ∷ codes "manual" ∷ rest)) (some_is same) (record {
@@ -727,46 +567,34 @@ manual_is_met name rest (Some word) asked named same = subst (Meets program (nam
   values = manual_met rest word named;
 })
 
-command_met : (name word : Text) (rest : List Text) (serves checks dumps loads storms gets puts dels swaps pairs converts creates backups versions manuals : Bool) (asked : Asked) → bytes_eq (codes "serve") word ≡ serves → bytes_eq (codes "check") word ≡ checks → bytes_eq (codes "dump") word ≡ dumps → bytes_eq (codes "load") word ≡ loads → bytes_eq (codes "storm") word ≡ storms → bytes_eq (codes "get") word ≡ gets → bytes_eq (codes "put") word ≡ puts → bytes_eq (codes "del") word ≡ dels → bytes_eq (codes "swap") word ≡ swaps → bytes_eq (codes "pairs") word ≡ pairs → bytes_eq (codes "convert") word ≡ converts → bytes_eq (codes "create") word ≡ creates → bytes_eq (codes "backup") word ≡ backups → bytes_eq (codes "version") word ≡ versions → bytes_eq (codes "manual") word ≡ manuals
-    → (cond serves (serve_asked rest) (cond checks (option_map Check (path_named rest)) (cond dumps (option_map Dump (path_named rest)) (cond loads (load_asked rest) (cond storms (storm_asked rest) (cond gets (get_asked rest) (cond puts (put_asked rest) (cond dels (del_asked rest) (cond swaps (swap_asked rest) (cond pairs (pairs_asked rest) (cond converts (convert_asked rest) (cond creates (create_asked rest) (cond backups (backup_asked rest) (cond versions (version_asked rest) (cond manuals (manual_asked rest) None))))))))))))))) ≡ Some asked
+command_met : (name word : Text) (rest : List Text) (serves checks dumps loads storms pairs converts versions manuals : Bool) (asked : Asked) → bytes_eq (codes "serve") word ≡ serves → bytes_eq (codes "check") word ≡ checks → bytes_eq (codes "dump") word ≡ dumps → bytes_eq (codes "load") word ≡ loads → bytes_eq (codes "storm") word ≡ storms → bytes_eq (codes "pairs") word ≡ pairs → bytes_eq (codes "convert") word ≡ converts → bytes_eq (codes "version") word ≡ versions → bytes_eq (codes "manual") word ≡ manuals
+    → (cond serves (serve_asked rest) (cond checks (option_map Check (path_named rest)) (cond dumps (option_map Dump (path_named rest)) (cond loads (load_asked rest) (cond storms (storm_asked rest) (cond pairs (pairs_asked rest) (cond converts (convert_asked rest) (cond versions (version_asked rest) (cond manuals (manual_asked rest) None))))))))) ≡ Some asked
     → Meets program (name ∷ word ∷ rest) asked
-command_met name word rest true checks dumps loads storms gets puts dels swaps pairs converts creates backups versions manuals asked s c d l o g p e w i v r b n m named =
+command_met name word rest true checks dumps loads storms pairs converts versions manuals asked s c d l o i v n m named =
     subst (λ w. Meets program (name ∷ w ∷ rest) asked) (is_name (codes "serve") word s) (serve_is_met name rest asked named)
-command_met name word rest false true dumps loads storms gets puts dels swaps pairs converts creates backups versions manuals asked s c d l o g p e w i v r b n m named =
+command_met name word rest false true dumps loads storms pairs converts versions manuals asked s c d l o i v n m named =
     subst (λ w. Meets program (name ∷ w ∷ rest) asked) (is_name (codes "check") word c) (path_is_met name (codes "check") Check (λ path. refl) (λ path rows is. is) rest (check_met name rest) (path_named rest) asked refl named)
-command_met name word rest false false true loads storms gets puts dels swaps pairs converts creates backups versions manuals asked s c d l o g p e w i v r b n m named =
+command_met name word rest false false true loads storms pairs converts versions manuals asked s c d l o i v n m named =
     subst (λ w. Meets program (name ∷ w ∷ rest) asked) (is_name (codes "dump") word d) (path_is_met name (codes "dump") Dump (λ path. refl) (λ path rows is. is) rest (dump_met name rest) (path_named rest) asked refl named)
-command_met name word rest false false false true storms gets puts dels swaps pairs converts creates backups versions manuals asked s c d l o g p e w i v r b n m named =
+command_met name word rest false false false true storms pairs converts versions manuals asked s c d l o i v n m named =
     subst (λ w. Meets program (name ∷ w ∷ rest) asked) (is_name (codes "load") word l) (load_is_met name rest asked named)
-command_met name word rest false false false false true gets puts dels swaps pairs converts creates backups versions manuals asked s c d l o g p e w i v r b n m named =
+command_met name word rest false false false false true pairs converts versions manuals asked s c d l o i v n m named =
     subst (λ w. Meets program (name ∷ w ∷ rest) asked) (is_name (codes "storm") word o) (storm_is_met name rest asked named)
-command_met name word rest false false false false false true puts dels swaps pairs converts creates backups versions manuals asked s c d l o g p e w i v r b n m named =
-    subst (λ w. Meets program (name ∷ w ∷ rest) asked) (is_name (codes "get") word g) (get_is_met name rest (path_and_key rest) asked refl named)
-command_met name word rest false false false false false false true dels swaps pairs converts creates backups versions manuals asked s c d l o g p e w i v r b n m named =
-    subst (λ w. Meets program (name ∷ w ∷ rest) asked) (is_name (codes "put") word p) (put_is_met name rest (path_and_two rest) asked refl named)
-command_met name word rest false false false false false false false true swaps pairs converts creates backups versions manuals asked s c d l o g p e w i v r b n m named =
-    subst (λ w. Meets program (name ∷ w ∷ rest) asked) (is_name (codes "del") word e) (del_is_met name rest (path_and_key rest) asked refl named)
-command_met name word rest false false false false false false false false true pairs converts creates backups versions manuals asked s c d l o g p e w i v r b n m named =
-    subst (λ w. Meets program (name ∷ w ∷ rest) asked) (is_name (codes "swap") word w) (swap_is_met name rest (path_and_three rest) asked refl named)
-command_met name word rest false false false false false false false false false true converts creates backups versions manuals asked s c d l o g p e w i v r b n m named =
+command_met name word rest false false false false false true converts versions manuals asked s c d l o i v n m named =
     subst (λ w. Meets program (name ∷ w ∷ rest) asked) (is_name (codes "pairs") word i) (pairs_is_met name rest asked named)
-command_met name word rest false false false false false false false false false false true creates backups versions manuals asked s c d l o g p e w i v r b n m named =
+command_met name word rest false false false false false false true versions manuals asked s c d l o i v n m named =
     subst (λ w. Meets program (name ∷ w ∷ rest) asked) (is_name (codes "convert") word v) (convert_is_met name rest asked named)
-command_met name word rest false false false false false false false false false false false true backups versions manuals asked s c d l o g p e w i v r b n m named =
-    subst (λ w. Meets program (name ∷ w ∷ rest) asked) (is_name (codes "create") word r) (create_is_met name rest asked named)
-command_met name word rest false false false false false false false false false false false false true versions manuals asked s c d l o g p e w i v r b n m named =
-    subst (λ w. Meets program (name ∷ w ∷ rest) asked) (is_name (codes "backup") word b) (backup_is_met name rest asked named)
-command_met name word rest false false false false false false false false false false false false false true manuals asked s c d l o g p e w i v r b n m named =
+command_met name word rest false false false false false false false true manuals asked s c d l o i v n m named =
     subst (λ w. Meets program (name ∷ w ∷ rest) asked) (is_name (codes "version") word n) (version_is_met name rest asked named)
-command_met name word rest false false false false false false false false false false false false false false true asked s c d l o g p e w i v r b n m named =
+command_met name word rest false false false false false false false false true asked s c d l o i v n m named =
     subst (λ w. Meets program (name ∷ w ∷ rest) asked) (is_name (codes "manual") word m) (manual_is_met name rest (word_perhaps rest) asked refl named)
-command_met name word rest false false false false false false false false false false false false false false false asked s c d l o g p e w i v r b n m named = absurd (none-some asked named)
+command_met name word rest false false false false false false false false false asked s c d l o i v n m named = absurd (none-some asked named)
 
 asked_met : (words : List Text) (asked : Asked) → asked_by words ≡ Some asked → Meets program words asked
 asked_met [] asked named = absurd (none-some asked named)
 asked_met (name ∷ []) asked named = absurd (none-some asked named)
 asked_met (name ∷ command ∷ rest) asked named =
-    command_met name command rest (bytes_eq (codes "serve") command) (bytes_eq (codes "check") command) (bytes_eq (codes "dump") command) (bytes_eq (codes "load") command) (bytes_eq (codes "storm") command) (bytes_eq (codes "get") command) (bytes_eq (codes "put") command) (bytes_eq (codes "del") command) (bytes_eq (codes "swap") command) (bytes_eq (codes "pairs") command) (bytes_eq (codes "convert") command) (bytes_eq (codes "create") command) (bytes_eq (codes "backup") command) (bytes_eq (codes "version") command) (bytes_eq (codes "manual") command) asked refl refl refl refl refl refl refl refl refl refl refl refl refl refl refl named
+    command_met name command rest (bytes_eq (codes "serve") command) (bytes_eq (codes "check") command) (bytes_eq (codes "dump") command) (bytes_eq (codes "load") command) (bytes_eq (codes "storm") command) (bytes_eq (codes "pairs") command) (bytes_eq (codes "convert") command) (bytes_eq (codes "version") command) (bytes_eq (codes "manual") command) asked refl refl refl refl refl refl refl refl refl named
 
 -- ---- the version
 
@@ -834,8 +662,6 @@ own_of m command own known named behind same asked is = subst (λ command. IsOwn
 
 pub serves : (asked : Asked) (own : ArgMatches) (opened saved : Option Text) → IsOwn (codes "serve") own asked → opened ≡ first_value (found_of own) open_name → saved ≡ first_value (found_of own) save_name
     → Some asked ≡ Some (Serve opened saved)
-serves (Create file texts) own opened saved is opens saves = absurd (let never : 115 ≡ 99 = ap (λ (word : Text). slice_index_or word 0 0) is.command_is in omega arith)
-serves (Backup file new) own opened saved is opens saves = absurd (let never : 115 ≡ 98 = ap (λ (word : Text). slice_index_or word 0 0) is.command_is in omega arith)
 serves Version own opened saved is opens saves = absurd (let never : 115 ≡ 118 = ap (λ (word : Text). slice_index_or word 0 0) is.command_is in omega arith)
 serves (Manual command) own opened saved is opens saves = absurd (let never : 115 ≡ 109 = ap (λ (word : Text). slice_index_or word 0 0) is.command_is in omega arith)
 serves (Serve opening saving) own opened saved is opens saves =
@@ -844,10 +670,6 @@ serves (Check path) own opened saved is opens saves = absurd (let never : 115 �
 serves (Dump path) own opened saved is opens saves = absurd (let never : 115 ≡ 100 = ap (λ (word : Text). slice_index_or word 0 0) is.command_is in omega arith)
 serves (Load path long into) own opened saved is opens saves = absurd (let never : 115 ≡ 108 = ap (λ (word : Text). slice_index_or word 0 0) is.command_is in omega arith)
 serves (Storm texts) own opened saved is opens saves = absurd (let never : 101 ≡ 116 = ap (λ (word : Text). slice_index_or word 1 0) is.command_is in omega arith)
-serves (Get path word) own opened saved is opens saves = absurd (let never : 115 ≡ 103 = ap (λ (word : Text). slice_index_or word 0 0) is.command_is in omega arith)
-serves (Put path key value) own opened saved is opens saves = absurd (let never : 115 ≡ 112 = ap (λ (word : Text). slice_index_or word 0 0) is.command_is in omega arith)
-serves (Del path key) own opened saved is opens saves = absurd (let never : 115 ≡ 100 = ap (λ (word : Text). slice_index_or word 0 0) is.command_is in omega arith)
-serves (Swap path key old new) own opened saved is opens saves = absurd (let never : 101 ≡ 119 = ap (λ (word : Text). slice_index_or word 1 0) is.command_is in omega arith)
 serves (Convert path new version) own opened saved is opens saves = absurd (let never : 115 ≡ 99 = ap (λ (word : Text). slice_index_or word 0 0) is.command_is in omega arith)
 serves (Pairs path texts) own opened saved is opens saves = absurd (let never : 115 ≡ 112 = ap (λ (word : Text). slice_index_or word 0 0) is.command_is in omega arith)
 
@@ -859,8 +681,6 @@ has_path : (own : ArgMatches) (path : Text) → first_of path_id (rows_of (found
 has_path own path is = subst IsSome (sym (first_value-rows (found_of own) path_id ∙ is)) refl
 
 pub checks : (asked : Asked) (own : ArgMatches) → IsOwn (codes "check") own asked → (path : Text) → Some path ≡ first_value (found_of own) path_id → Some asked ≡ Some (Check path)
-checks (Create file texts) own is path read = absurd (let never : 104 ≡ 114 = ap (λ (word : Text). slice_index_or word 1 0) is.command_is in omega arith)
-checks (Backup file new) own is path read = absurd (let never : 99 ≡ 98 = ap (λ (word : Text). slice_index_or word 0 0) is.command_is in omega arith)
 checks Version own is path read = absurd (let never : 99 ≡ 118 = ap (λ (word : Text). slice_index_or word 0 0) is.command_is in omega arith)
 checks (Manual command) own is path read = absurd (let never : 99 ≡ 109 = ap (λ (word : Text). slice_index_or word 0 0) is.command_is in omega arith)
 checks (Serve opening saving) own is path read = absurd (let never : 99 ≡ 115 = ap (λ (word : Text). slice_index_or word 0 0) is.command_is in omega arith)
@@ -868,16 +688,10 @@ checks (Check other) own is path read = ap (λ path. Some (Check path)) (same_pa
 checks (Dump other) own is path read = absurd (let never : 99 ≡ 100 = ap (λ (word : Text). slice_index_or word 0 0) is.command_is in omega arith)
 checks (Load other long into) own is path read = absurd (let never : 99 ≡ 108 = ap (λ (word : Text). slice_index_or word 0 0) is.command_is in omega arith)
 checks (Storm texts) own is path read = absurd (let never : 99 ≡ 115 = ap (λ (word : Text). slice_index_or word 0 0) is.command_is in omega arith)
-checks (Get file word) own is path read = absurd (let never : 99 ≡ 103 = ap (λ (word : Text). slice_index_or word 0 0) is.command_is in omega arith)
-checks (Put file key value) own is path read = absurd (let never : 99 ≡ 112 = ap (λ (word : Text). slice_index_or word 0 0) is.command_is in omega arith)
-checks (Del file key) own is path read = absurd (let never : 99 ≡ 100 = ap (λ (word : Text). slice_index_or word 0 0) is.command_is in omega arith)
-checks (Swap file key old new) own is path read = absurd (let never : 99 ≡ 115 = ap (λ (word : Text). slice_index_or word 0 0) is.command_is in omega arith)
 checks (Convert file new version) own is path read = absurd (let never : 104 ≡ 111 = ap (λ (word : Text). slice_index_or word 1 0) is.command_is in omega arith)
 checks (Pairs file texts) own is path read = absurd (let never : 99 ≡ 112 = ap (λ (word : Text). slice_index_or word 0 0) is.command_is in omega arith)
 
 pub dumps : (asked : Asked) (own : ArgMatches) → IsOwn (codes "dump") own asked → (path : Text) → Some path ≡ first_value (found_of own) path_id → Some asked ≡ Some (Dump path)
-dumps (Create file texts) own is path read = absurd (let never : 100 ≡ 99 = ap (λ (word : Text). slice_index_or word 0 0) is.command_is in omega arith)
-dumps (Backup file new) own is path read = absurd (let never : 100 ≡ 98 = ap (λ (word : Text). slice_index_or word 0 0) is.command_is in omega arith)
 dumps Version own is path read = absurd (let never : 100 ≡ 118 = ap (λ (word : Text). slice_index_or word 0 0) is.command_is in omega arith)
 dumps (Manual command) own is path read = absurd (let never : 100 ≡ 109 = ap (λ (word : Text). slice_index_or word 0 0) is.command_is in omega arith)
 dumps (Serve opening saving) own is path read = absurd (let never : 100 ≡ 115 = ap (λ (word : Text). slice_index_or word 0 0) is.command_is in omega arith)
@@ -885,10 +699,6 @@ dumps (Check other) own is path read = absurd (let never : 100 ≡ 99 = ap (λ (
 dumps (Dump other) own is path read = ap (λ path. Some (Dump path)) (same_path own other path is.values read)
 dumps (Load other long into) own is path read = absurd (let never : 100 ≡ 108 = ap (λ (word : Text). slice_index_or word 0 0) is.command_is in omega arith)
 dumps (Storm texts) own is path read = absurd (let never : 100 ≡ 115 = ap (λ (word : Text). slice_index_or word 0 0) is.command_is in omega arith)
-dumps (Get file word) own is path read = absurd (let never : 100 ≡ 103 = ap (λ (word : Text). slice_index_or word 0 0) is.command_is in omega arith)
-dumps (Put file key value) own is path read = absurd (let never : 100 ≡ 112 = ap (λ (word : Text). slice_index_or word 0 0) is.command_is in omega arith)
-dumps (Del file key) own is path read = absurd (let never : 117 ≡ 101 = ap (λ (word : Text). slice_index_or word 1 0) is.command_is in omega arith)
-dumps (Swap file key old new) own is path read = absurd (let never : 100 ≡ 115 = ap (λ (word : Text). slice_index_or word 0 0) is.command_is in omega arith)
 dumps (Convert file new version) own is path read = absurd (let never : 100 ≡ 99 = ap (λ (word : Text). slice_index_or word 0 0) is.command_is in omega arith)
 dumps (Pairs file texts) own is path read = absurd (let never : 100 ≡ 112 = ap (λ (word : Text). slice_index_or word 0 0) is.command_is in omega arith)
 
@@ -902,18 +712,12 @@ pub record GivesLoad (asked : Asked) (own : ArgMatches) : Type 0 where
   pub flags : HasFlags (found_of own) long into
 
 pub loads : (asked : Asked) (own : ArgMatches) → IsOwn (codes "load") own asked → GivesLoad asked own
-loads (Create file texts) own is = absurd (let never : 108 ≡ 99 = ap (λ (word : Text). slice_index_or word 0 0) is.command_is in omega arith)
-loads (Backup file new) own is = absurd (let never : 108 ≡ 98 = ap (λ (word : Text). slice_index_or word 0 0) is.command_is in omega arith)
 loads Version own is = absurd (let never : 108 ≡ 118 = ap (λ (word : Text). slice_index_or word 0 0) is.command_is in omega arith)
 loads (Manual command) own is = absurd (let never : 108 ≡ 109 = ap (λ (word : Text). slice_index_or word 0 0) is.command_is in omega arith)
 loads (Serve opening saving) own is = absurd (let never : 108 ≡ 115 = ap (λ (word : Text). slice_index_or word 0 0) is.command_is in omega arith)
 loads (Check path) own is = absurd (let never : 108 ≡ 99 = ap (λ (word : Text). slice_index_or word 0 0) is.command_is in omega arith)
 loads (Dump path) own is = absurd (let never : 108 ≡ 100 = ap (λ (word : Text). slice_index_or word 0 0) is.command_is in omega arith)
 loads (Storm texts) own is = absurd (let never : 108 ≡ 115 = ap (λ (word : Text). slice_index_or word 0 0) is.command_is in omega arith)
-loads (Get path word) own is = absurd (let never : 108 ≡ 103 = ap (λ (word : Text). slice_index_or word 0 0) is.command_is in omega arith)
-loads (Put path key value) own is = absurd (let never : 108 ≡ 112 = ap (λ (word : Text). slice_index_or word 0 0) is.command_is in omega arith)
-loads (Del path key) own is = absurd (let never : 108 ≡ 100 = ap (λ (word : Text). slice_index_or word 0 0) is.command_is in omega arith)
-loads (Swap path key old new) own is = absurd (let never : 108 ≡ 115 = ap (λ (word : Text). slice_index_or word 0 0) is.command_is in omega arith)
 loads (Convert path new version) own is = absurd (let never : 108 ≡ 99 = ap (λ (word : Text). slice_index_or word 0 0) is.command_is in omega arith)
 loads (Pairs path texts) own is = absurd (let never : 108 ≡ 112 = ap (λ (word : Text). slice_index_or word 0 0) is.command_is in omega arith)
 loads (Load path long into) own is = record {
@@ -930,18 +734,12 @@ same_text : (own : ArgMatches) (name : Text) (text : Option Text) → first_of n
 same_text own name text is = sym (first_value-rows (found_of own) name ∙ is)
 
 pub storms : (asked : Asked) (own : ArgMatches) → IsOwn (codes "storm") own asked → Some asked ≡ Some (Storm (texts_of (found_of own)))
-storms (Create file texts) own is = absurd (let never : 115 ≡ 99 = ap (λ (word : Text). slice_index_or word 0 0) is.command_is in omega arith)
-storms (Backup file new) own is = absurd (let never : 115 ≡ 98 = ap (λ (word : Text). slice_index_or word 0 0) is.command_is in omega arith)
 storms Version own is = absurd (let never : 115 ≡ 118 = ap (λ (word : Text). slice_index_or word 0 0) is.command_is in omega arith)
 storms (Manual command) own is = absurd (let never : 115 ≡ 109 = ap (λ (word : Text). slice_index_or word 0 0) is.command_is in omega arith)
 storms (Serve opening saving) own is = absurd (let never : 116 ≡ 101 = ap (λ (word : Text). slice_index_or word 1 0) is.command_is in omega arith)
 storms (Check path) own is = absurd (let never : 115 ≡ 99 = ap (λ (word : Text). slice_index_or word 0 0) is.command_is in omega arith)
 storms (Dump path) own is = absurd (let never : 115 ≡ 100 = ap (λ (word : Text). slice_index_or word 0 0) is.command_is in omega arith)
 storms (Load path long into) own is = absurd (let never : 115 ≡ 108 = ap (λ (word : Text). slice_index_or word 0 0) is.command_is in omega arith)
-storms (Get path word) own is = absurd (let never : 115 ≡ 103 = ap (λ (word : Text). slice_index_or word 0 0) is.command_is in omega arith)
-storms (Put path key value) own is = absurd (let never : 115 ≡ 112 = ap (λ (word : Text). slice_index_or word 0 0) is.command_is in omega arith)
-storms (Del path key) own is = absurd (let never : 115 ≡ 100 = ap (λ (word : Text). slice_index_or word 0 0) is.command_is in omega arith)
-storms (Swap path key old new) own is = absurd (let never : 116 ≡ 119 = ap (λ (word : Text). slice_index_or word 1 0) is.command_is in omega arith)
 storms (Convert path new version) own is = absurd (let never : 115 ≡ 99 = ap (λ (word : Text). slice_index_or word 0 0) is.command_is in omega arith)
 storms (Pairs path texts) own is = absurd (let never : 115 ≡ 112 = ap (λ (word : Text). slice_index_or word 0 0) is.command_is in omega arith)
 storms (Storm texts) own is = ap (λ texts. Some (Storm texts)) (same_texts is.values)
@@ -963,169 +761,10 @@ path_given (Check path) command own is other = has_path own path is.values
 path_given (Dump path) command own is other = has_path own path is.values
 path_given (Load path long into) command own is other = has_path own path is.values.0
 path_given (Storm texts) command own is other = absurd (other.1 is.command_is)
-path_given (Get path word) command own is other = has_path own path is.values.0
-path_given (Put path key value) command own is other = has_path own path is.values.0
-path_given (Del path key) command own is other = has_path own path is.values.0
-path_given (Swap path key old new) command own is other = has_path own path is.values.0
 path_given (Convert path new version) command own is other = has_path own path is.values.0
 path_given (Pairs path texts) command own is other = has_path own path is.values.0
-path_given (Create path texts) command own is other = has_path own path is.values.0
-path_given (Backup path new) command own is other = has_path own path is.values.0
 path_given Version command own is other = absurd (other.2 is.command_is)
 path_given (Manual word) command own is other = absurd (other.3 is.command_is)
-
--- a get's words, as they were read
-pub key_given : (asked : Asked) (own : ArgMatches) → IsOwn (codes "get") own asked → IsSome (first_value (found_of own) key_id)
-key_given (Serve opening saving) own is = absurd (let never : 103 ≡ 115 = ap (λ (word : Text). slice_index_or word 0 0) is.command_is in omega arith)
-key_given (Check path) own is = absurd (let never : 103 ≡ 99 = ap (λ (word : Text). slice_index_or word 0 0) is.command_is in omega arith)
-key_given (Dump path) own is = absurd (let never : 103 ≡ 100 = ap (λ (word : Text). slice_index_or word 0 0) is.command_is in omega arith)
-key_given (Load path long into) own is = absurd (let never : 103 ≡ 108 = ap (λ (word : Text). slice_index_or word 0 0) is.command_is in omega arith)
-key_given (Storm texts) own is = absurd (let never : 103 ≡ 115 = ap (λ (word : Text). slice_index_or word 0 0) is.command_is in omega arith)
-key_given (Get path word) own is = subst IsSome (sym (first_value-rows (found_of own) key_id ∙ is.values.1)) refl
-key_given (Put path key value) own is = absurd (let never : 103 ≡ 112 = ap (λ (word : Text). slice_index_or word 0 0) is.command_is in omega arith)
-key_given (Del path key) own is = absurd (let never : 103 ≡ 100 = ap (λ (word : Text). slice_index_or word 0 0) is.command_is in omega arith)
-key_given (Swap path key old new) own is = absurd (let never : 103 ≡ 115 = ap (λ (word : Text). slice_index_or word 0 0) is.command_is in omega arith)
-key_given (Convert path new version) own is = absurd (let never : 103 ≡ 99 = ap (λ (word : Text). slice_index_or word 0 0) is.command_is in omega arith)
-key_given (Pairs path texts) own is = absurd (let never : 103 ≡ 112 = ap (λ (word : Text). slice_index_or word 0 0) is.command_is in omega arith)
-key_given (Create path texts) own is = absurd (let never : 103 ≡ 99 = ap (λ (word : Text). slice_index_or word 0 0) is.command_is in omega arith)
-key_given (Backup path new) own is = absurd (let never : 103 ≡ 98 = ap (λ (word : Text). slice_index_or word 0 0) is.command_is in omega arith)
-key_given Version own is = absurd (let never : 103 ≡ 118 = ap (λ (word : Text). slice_index_or word 0 0) is.command_is in omega arith)
-key_given (Manual word) own is = absurd (let never : 103 ≡ 109 = ap (λ (word : Text). slice_index_or word 0 0) is.command_is in omega arith)
-
-pub record GivesKey (asked : Asked) (own : ArgMatches) : Type 0 where
-  pub path : Text
-  pub word : Text
-  pub asked_is : Some asked ≡ Some (Get path word)
-  pub path_is : Some path ≡ first_value (found_of own) path_id
-  pub word_is : Some word ≡ first_value (found_of own) key_id
-
-pub gets : (asked : Asked) (own : ArgMatches) → IsOwn (codes "get") own asked → GivesKey asked own
-gets (Create file texts) own is = absurd (let never : 103 ≡ 99 = ap (λ (word : Text). slice_index_or word 0 0) is.command_is in omega arith)
-gets (Backup file new) own is = absurd (let never : 103 ≡ 98 = ap (λ (word : Text). slice_index_or word 0 0) is.command_is in omega arith)
-gets Version own is = absurd (let never : 103 ≡ 118 = ap (λ (word : Text). slice_index_or word 0 0) is.command_is in omega arith)
-gets (Manual command) own is = absurd (let never : 103 ≡ 109 = ap (λ (word : Text). slice_index_or word 0 0) is.command_is in omega arith)
-gets (Serve opening saving) own is = absurd (let never : 103 ≡ 115 = ap (λ (word : Text). slice_index_or word 0 0) is.command_is in omega arith)
-gets (Check path) own is = absurd (let never : 103 ≡ 99 = ap (λ (word : Text). slice_index_or word 0 0) is.command_is in omega arith)
-gets (Dump path) own is = absurd (let never : 103 ≡ 100 = ap (λ (word : Text). slice_index_or word 0 0) is.command_is in omega arith)
-gets (Load path long into) own is = absurd (let never : 103 ≡ 108 = ap (λ (word : Text). slice_index_or word 0 0) is.command_is in omega arith)
-gets (Storm texts) own is = absurd (let never : 103 ≡ 115 = ap (λ (word : Text). slice_index_or word 0 0) is.command_is in omega arith)
-gets (Put path key value) own is = absurd (let never : 103 ≡ 112 = ap (λ (word : Text). slice_index_or word 0 0) is.command_is in omega arith)
-gets (Del path key) own is = absurd (let never : 103 ≡ 100 = ap (λ (word : Text). slice_index_or word 0 0) is.command_is in omega arith)
-gets (Swap path key old new) own is = absurd (let never : 103 ≡ 115 = ap (λ (word : Text). slice_index_or word 0 0) is.command_is in omega arith)
-gets (Convert path new version) own is = absurd (let never : 103 ≡ 99 = ap (λ (word : Text). slice_index_or word 0 0) is.command_is in omega arith)
-gets (Pairs path texts) own is = absurd (let never : 103 ≡ 112 = ap (λ (word : Text). slice_index_or word 0 0) is.command_is in omega arith)
-gets (Get path word) own is = record {
-  path = path;
-  word = word;
-  asked_is = refl;
-  path_is = sym (first_value-rows (found_of own) path_id ∙ is.values.0);
-  word_is = sym (first_value-rows (found_of own) key_id ∙ is.values.1);
-}
-
--- the words of a put, as they were read
-pub record GivesPut (asked : Asked) (own : ArgMatches) : Type 0 where
-  pub path : Text
-  pub key : Text
-  pub value : Text
-  pub asked_is : Some asked ≡ Some (Put path key value)
-  pub path_is : Some path ≡ first_value (found_of own) path_id
-  pub key_is : Some key ≡ first_value (found_of own) key_id
-  pub value_is : Some value ≡ first_value (found_of own) value_id
-
-pub puts : (asked : Asked) (own : ArgMatches) → IsOwn (codes "put") own asked → GivesPut asked own
-puts (Create file texts) own is = absurd (let never : 112 ≡ 99 = ap (λ (word : Text). slice_index_or word 0 0) is.command_is in omega arith)
-puts (Backup file new) own is = absurd (let never : 112 ≡ 98 = ap (λ (word : Text). slice_index_or word 0 0) is.command_is in omega arith)
-puts Version own is = absurd (let never : 112 ≡ 118 = ap (λ (word : Text). slice_index_or word 0 0) is.command_is in omega arith)
-puts (Manual command) own is = absurd (let never : 112 ≡ 109 = ap (λ (word : Text). slice_index_or word 0 0) is.command_is in omega arith)
-puts (Serve opening saving) own is = absurd (let never : 112 ≡ 115 = ap (λ (word : Text). slice_index_or word 0 0) is.command_is in omega arith)
-puts (Check path) own is = absurd (let never : 112 ≡ 99 = ap (λ (word : Text). slice_index_or word 0 0) is.command_is in omega arith)
-puts (Dump path) own is = absurd (let never : 112 ≡ 100 = ap (λ (word : Text). slice_index_or word 0 0) is.command_is in omega arith)
-puts (Load path long into) own is = absurd (let never : 112 ≡ 108 = ap (λ (word : Text). slice_index_or word 0 0) is.command_is in omega arith)
-puts (Storm texts) own is = absurd (let never : 112 ≡ 115 = ap (λ (word : Text). slice_index_or word 0 0) is.command_is in omega arith)
-puts (Get path word) own is = absurd (let never : 112 ≡ 103 = ap (λ (word : Text). slice_index_or word 0 0) is.command_is in omega arith)
-puts (Del path key) own is = absurd (let never : 112 ≡ 100 = ap (λ (word : Text). slice_index_or word 0 0) is.command_is in omega arith)
-puts (Swap path key old new) own is = absurd (let never : 112 ≡ 115 = ap (λ (word : Text). slice_index_or word 0 0) is.command_is in omega arith)
-puts (Convert path new version) own is = absurd (let never : 112 ≡ 99 = ap (λ (word : Text). slice_index_or word 0 0) is.command_is in omega arith)
-puts (Pairs path texts) own is = absurd (let never : 117 ≡ 97 = ap (λ (word : Text). slice_index_or word 1 0) is.command_is in omega arith)
-puts (Put path key value) own is = record {
-  path = path;
-  key = key;
-  value = value;
-  asked_is = refl;
-  path_is = sym (first_value-rows (found_of own) path_id ∙ is.values.0);
-  key_is = sym (first_value-rows (found_of own) key_id ∙ is.values.1);
-  value_is = sym (first_value-rows (found_of own) value_id ∙ is.values.2);
-}
-
--- the words of a del, as they were read
-pub record GivesDel (asked : Asked) (own : ArgMatches) : Type 0 where
-  pub path : Text
-  pub key : Text
-  pub asked_is : Some asked ≡ Some (Del path key)
-  pub path_is : Some path ≡ first_value (found_of own) path_id
-  pub key_is : Some key ≡ first_value (found_of own) key_id
-
-pub dels : (asked : Asked) (own : ArgMatches) → IsOwn (codes "del") own asked → GivesDel asked own
-dels (Create file texts) own is = absurd (let never : 100 ≡ 99 = ap (λ (word : Text). slice_index_or word 0 0) is.command_is in omega arith)
-dels (Backup file new) own is = absurd (let never : 100 ≡ 98 = ap (λ (word : Text). slice_index_or word 0 0) is.command_is in omega arith)
-dels Version own is = absurd (let never : 100 ≡ 118 = ap (λ (word : Text). slice_index_or word 0 0) is.command_is in omega arith)
-dels (Manual command) own is = absurd (let never : 100 ≡ 109 = ap (λ (word : Text). slice_index_or word 0 0) is.command_is in omega arith)
-dels (Serve opening saving) own is = absurd (let never : 100 ≡ 115 = ap (λ (word : Text). slice_index_or word 0 0) is.command_is in omega arith)
-dels (Check path) own is = absurd (let never : 100 ≡ 99 = ap (λ (word : Text). slice_index_or word 0 0) is.command_is in omega arith)
-dels (Dump path) own is = absurd (let never : 101 ≡ 117 = ap (λ (word : Text). slice_index_or word 1 0) is.command_is in omega arith)
-dels (Load path long into) own is = absurd (let never : 100 ≡ 108 = ap (λ (word : Text). slice_index_or word 0 0) is.command_is in omega arith)
-dels (Storm texts) own is = absurd (let never : 100 ≡ 115 = ap (λ (word : Text). slice_index_or word 0 0) is.command_is in omega arith)
-dels (Get path word) own is = absurd (let never : 100 ≡ 103 = ap (λ (word : Text). slice_index_or word 0 0) is.command_is in omega arith)
-dels (Put path key value) own is = absurd (let never : 100 ≡ 112 = ap (λ (word : Text). slice_index_or word 0 0) is.command_is in omega arith)
-dels (Swap path key old new) own is = absurd (let never : 100 ≡ 115 = ap (λ (word : Text). slice_index_or word 0 0) is.command_is in omega arith)
-dels (Convert path new version) own is = absurd (let never : 100 ≡ 99 = ap (λ (word : Text). slice_index_or word 0 0) is.command_is in omega arith)
-dels (Pairs path texts) own is = absurd (let never : 100 ≡ 112 = ap (λ (word : Text). slice_index_or word 0 0) is.command_is in omega arith)
-dels (Del path key) own is = record {
-  path = path;
-  key = key;
-  asked_is = refl;
-  path_is = sym (first_value-rows (found_of own) path_id ∙ is.values.0);
-  key_is = sym (first_value-rows (found_of own) key_id ∙ is.values.1);
-}
-
--- the words of a swap, as they were read
-pub record GivesSwap (asked : Asked) (own : ArgMatches) : Type 0 where
-  pub path : Text
-  pub key : Text
-  pub old : Text
-  pub new : Text
-  pub asked_is : Some asked ≡ Some (Swap path key old new)
-  pub path_is : Some path ≡ first_value (found_of own) path_id
-  pub key_is : Some key ≡ first_value (found_of own) key_id
-  pub old_is : Some old ≡ first_value (found_of own) old_id
-  pub new_is : Some new ≡ first_value (found_of own) new_id
-
-pub swaps : (asked : Asked) (own : ArgMatches) → IsOwn (codes "swap") own asked → GivesSwap asked own
-swaps (Create file texts) own is = absurd (let never : 115 ≡ 99 = ap (λ (word : Text). slice_index_or word 0 0) is.command_is in omega arith)
-swaps (Backup file new) own is = absurd (let never : 115 ≡ 98 = ap (λ (word : Text). slice_index_or word 0 0) is.command_is in omega arith)
-swaps Version own is = absurd (let never : 115 ≡ 118 = ap (λ (word : Text). slice_index_or word 0 0) is.command_is in omega arith)
-swaps (Manual command) own is = absurd (let never : 115 ≡ 109 = ap (λ (word : Text). slice_index_or word 0 0) is.command_is in omega arith)
-swaps (Serve opening saving) own is = absurd (let never : 119 ≡ 101 = ap (λ (word : Text). slice_index_or word 1 0) is.command_is in omega arith)
-swaps (Check path) own is = absurd (let never : 115 ≡ 99 = ap (λ (word : Text). slice_index_or word 0 0) is.command_is in omega arith)
-swaps (Dump path) own is = absurd (let never : 115 ≡ 100 = ap (λ (word : Text). slice_index_or word 0 0) is.command_is in omega arith)
-swaps (Load path long into) own is = absurd (let never : 115 ≡ 108 = ap (λ (word : Text). slice_index_or word 0 0) is.command_is in omega arith)
-swaps (Storm texts) own is = absurd (let never : 119 ≡ 116 = ap (λ (word : Text). slice_index_or word 1 0) is.command_is in omega arith)
-swaps (Get path word) own is = absurd (let never : 115 ≡ 103 = ap (λ (word : Text). slice_index_or word 0 0) is.command_is in omega arith)
-swaps (Put path key value) own is = absurd (let never : 115 ≡ 112 = ap (λ (word : Text). slice_index_or word 0 0) is.command_is in omega arith)
-swaps (Del path key) own is = absurd (let never : 115 ≡ 100 = ap (λ (word : Text). slice_index_or word 0 0) is.command_is in omega arith)
-swaps (Convert path new version) own is = absurd (let never : 115 ≡ 99 = ap (λ (word : Text). slice_index_or word 0 0) is.command_is in omega arith)
-swaps (Pairs path texts) own is = absurd (let never : 115 ≡ 112 = ap (λ (word : Text). slice_index_or word 0 0) is.command_is in omega arith)
-swaps (Swap path key old new) own is = record {
-  path = path;
-  key = key;
-  old = old;
-  new = new;
-  asked_is = refl;
-  path_is = sym (first_value-rows (found_of own) path_id ∙ is.values.0);
-  key_is = sym (first_value-rows (found_of own) key_id ∙ is.values.1);
-  old_is = sym (first_value-rows (found_of own) old_id ∙ is.values.2);
-  new_is = sym (first_value-rows (found_of own) new_id ∙ is.values.3);
-}
 
 same_texts : (own : ArgMatches) (texts : PairsTexts) → HasPairsTexts texts (rows_of (found_of own)) → texts ≡ pairs_texts_of (found_of own)
 same_texts own texts has =
@@ -1139,8 +778,6 @@ pub record GivesPairs (asked : Asked) (own : ArgMatches) : Type 0 where
   pub path_is : Some path ≡ first_value (found_of own) path_id
 
 pub pairs : (asked : Asked) (own : ArgMatches) → IsOwn (codes "pairs") own asked → GivesPairs asked own
-pairs (Create file texts) own is = absurd (let never : 112 ≡ 99 = ap (λ (word : Text). slice_index_or word 0 0) is.command_is in omega arith)
-pairs (Backup file new) own is = absurd (let never : 112 ≡ 98 = ap (λ (word : Text). slice_index_or word 0 0) is.command_is in omega arith)
 pairs Version own is = absurd (let never : 112 ≡ 118 = ap (λ (word : Text). slice_index_or word 0 0) is.command_is in omega arith)
 pairs (Manual command) own is = absurd (let never : 112 ≡ 109 = ap (λ (word : Text). slice_index_or word 0 0) is.command_is in omega arith)
 pairs (Serve opening saving) own is = absurd (let never : 112 ≡ 115 = ap (λ (word : Text). slice_index_or word 0 0) is.command_is in omega arith)
@@ -1148,10 +785,6 @@ pairs (Check path) own is = absurd (let never : 112 ≡ 99 = ap (λ (word : Text
 pairs (Dump path) own is = absurd (let never : 112 ≡ 100 = ap (λ (word : Text). slice_index_or word 0 0) is.command_is in omega arith)
 pairs (Load path long into) own is = absurd (let never : 112 ≡ 108 = ap (λ (word : Text). slice_index_or word 0 0) is.command_is in omega arith)
 pairs (Storm texts) own is = absurd (let never : 112 ≡ 115 = ap (λ (word : Text). slice_index_or word 0 0) is.command_is in omega arith)
-pairs (Get path word) own is = absurd (let never : 112 ≡ 103 = ap (λ (word : Text). slice_index_or word 0 0) is.command_is in omega arith)
-pairs (Put path key value) own is = absurd (let never : 97 ≡ 117 = ap (λ (word : Text). slice_index_or word 1 0) is.command_is in omega arith)
-pairs (Del path key) own is = absurd (let never : 112 ≡ 100 = ap (λ (word : Text). slice_index_or word 0 0) is.command_is in omega arith)
-pairs (Swap path key old new) own is = absurd (let never : 112 ≡ 115 = ap (λ (word : Text). slice_index_or word 0 0) is.command_is in omega arith)
 pairs (Convert path new version) own is = absurd (let never : 112 ≡ 99 = ap (λ (word : Text). slice_index_or word 0 0) is.command_is in omega arith)
 pairs (Pairs path texts) own is = record {
   path = path;
@@ -1168,8 +801,6 @@ pub record GivesConvert (asked : Asked) (own : ArgMatches) : Type 0 where
   pub new_is : Some new ≡ first_value (found_of own) new_id
 
 pub converts : (asked : Asked) (own : ArgMatches) → IsOwn (codes "convert") own asked → GivesConvert asked own
-converts (Create file texts) own is = absurd (let never : 111 ≡ 114 = ap (λ (word : Text). slice_index_or word 1 0) is.command_is in omega arith)
-converts (Backup file new) own is = absurd (let never : 99 ≡ 98 = ap (λ (word : Text). slice_index_or word 0 0) is.command_is in omega arith)
 converts Version own is = absurd (let never : 99 ≡ 118 = ap (λ (word : Text). slice_index_or word 0 0) is.command_is in omega arith)
 converts (Manual command) own is = absurd (let never : 99 ≡ 109 = ap (λ (word : Text). slice_index_or word 0 0) is.command_is in omega arith)
 converts (Serve opening saving) own is = absurd (let never : 99 ≡ 115 = ap (λ (word : Text). slice_index_or word 0 0) is.command_is in omega arith)
@@ -1177,73 +808,11 @@ converts (Check path) own is = absurd (let never : 111 ≡ 104 = ap (λ (word : 
 converts (Dump path) own is = absurd (let never : 99 ≡ 100 = ap (λ (word : Text). slice_index_or word 0 0) is.command_is in omega arith)
 converts (Load path long into) own is = absurd (let never : 99 ≡ 108 = ap (λ (word : Text). slice_index_or word 0 0) is.command_is in omega arith)
 converts (Storm texts) own is = absurd (let never : 99 ≡ 115 = ap (λ (word : Text). slice_index_or word 0 0) is.command_is in omega arith)
-converts (Get path word) own is = absurd (let never : 99 ≡ 103 = ap (λ (word : Text). slice_index_or word 0 0) is.command_is in omega arith)
-converts (Put path key value) own is = absurd (let never : 99 ≡ 112 = ap (λ (word : Text). slice_index_or word 0 0) is.command_is in omega arith)
-converts (Del path key) own is = absurd (let never : 99 ≡ 100 = ap (λ (word : Text). slice_index_or word 0 0) is.command_is in omega arith)
-converts (Swap path key old new) own is = absurd (let never : 99 ≡ 115 = ap (λ (word : Text). slice_index_or word 0 0) is.command_is in omega arith)
 converts (Pairs path texts) own is = absurd (let never : 99 ≡ 112 = ap (λ (word : Text). slice_index_or word 0 0) is.command_is in omega arith)
 converts (Convert path new version) own is = record {
   path = path;
   new = new;
   asked_is = ap (λ version. Some (Convert path new version)) (same_text own version_name version is.values.2);
-  path_is = sym (first_value-rows (found_of own) path_id ∙ is.values.0);
-  new_is = sym (first_value-rows (found_of own) new_id ∙ is.values.1);
-}
-
--- the path of a new file, and its texts, as they were read
-pub record GivesCreate (asked : Asked) (own : ArgMatches) : Type 0 where
-  pub path : Text
-  pub asked_is : Some asked ≡ Some (Create path (pairs_texts_of (found_of own)))
-  pub path_is : Some path ≡ first_value (found_of own) path_id
-
-pub creates : (asked : Asked) (own : ArgMatches) → IsOwn (codes "create") own asked → GivesCreate asked own
-creates (Serve opening saving) own is = absurd (let never : 99 ≡ 115 = ap (λ (word : Text). slice_index_or word 0 0) is.command_is in omega arith)
-creates (Check path) own is = absurd (let never : 114 ≡ 104 = ap (λ (word : Text). slice_index_or word 1 0) is.command_is in omega arith)
-creates (Dump path) own is = absurd (let never : 99 ≡ 100 = ap (λ (word : Text). slice_index_or word 0 0) is.command_is in omega arith)
-creates (Load path long into) own is = absurd (let never : 99 ≡ 108 = ap (λ (word : Text). slice_index_or word 0 0) is.command_is in omega arith)
-creates (Storm texts) own is = absurd (let never : 99 ≡ 115 = ap (λ (word : Text). slice_index_or word 0 0) is.command_is in omega arith)
-creates (Get path word) own is = absurd (let never : 99 ≡ 103 = ap (λ (word : Text). slice_index_or word 0 0) is.command_is in omega arith)
-creates (Put path key value) own is = absurd (let never : 99 ≡ 112 = ap (λ (word : Text). slice_index_or word 0 0) is.command_is in omega arith)
-creates (Del path key) own is = absurd (let never : 99 ≡ 100 = ap (λ (word : Text). slice_index_or word 0 0) is.command_is in omega arith)
-creates (Swap path key old new) own is = absurd (let never : 99 ≡ 115 = ap (λ (word : Text). slice_index_or word 0 0) is.command_is in omega arith)
-creates (Convert path new version) own is = absurd (let never : 114 ≡ 111 = ap (λ (word : Text). slice_index_or word 1 0) is.command_is in omega arith)
-creates (Pairs path texts) own is = absurd (let never : 99 ≡ 112 = ap (λ (word : Text). slice_index_or word 0 0) is.command_is in omega arith)
-creates (Backup path new) own is = absurd (let never : 99 ≡ 98 = ap (λ (word : Text). slice_index_or word 0 0) is.command_is in omega arith)
-creates Version own is = absurd (let never : 99 ≡ 118 = ap (λ (word : Text). slice_index_or word 0 0) is.command_is in omega arith)
-creates (Manual command) own is = absurd (let never : 99 ≡ 109 = ap (λ (word : Text). slice_index_or word 0 0) is.command_is in omega arith)
-creates (Create path texts) own is = record {
-  path = path;
-  asked_is = ap (λ texts. Some (Create path texts)) (same_texts own texts is.values.1);
-  path_is = sym (first_value-rows (found_of own) path_id ∙ is.values.0);
-}
-
--- the paths of a copy, as they were read
-pub record GivesBackup (asked : Asked) (own : ArgMatches) : Type 0 where
-  pub path : Text
-  pub new : Text
-  pub asked_is : Some asked ≡ Some (Backup path new)
-  pub path_is : Some path ≡ first_value (found_of own) path_id
-  pub new_is : Some new ≡ first_value (found_of own) new_id
-
-pub backups : (asked : Asked) (own : ArgMatches) → IsOwn (codes "backup") own asked → GivesBackup asked own
-backups (Serve opening saving) own is = absurd (let never : 98 ≡ 115 = ap (λ (word : Text). slice_index_or word 0 0) is.command_is in omega arith)
-backups (Check path) own is = absurd (let never : 98 ≡ 99 = ap (λ (word : Text). slice_index_or word 0 0) is.command_is in omega arith)
-backups (Dump path) own is = absurd (let never : 98 ≡ 100 = ap (λ (word : Text). slice_index_or word 0 0) is.command_is in omega arith)
-backups (Load path long into) own is = absurd (let never : 98 ≡ 108 = ap (λ (word : Text). slice_index_or word 0 0) is.command_is in omega arith)
-backups (Storm texts) own is = absurd (let never : 98 ≡ 115 = ap (λ (word : Text). slice_index_or word 0 0) is.command_is in omega arith)
-backups (Get path word) own is = absurd (let never : 98 ≡ 103 = ap (λ (word : Text). slice_index_or word 0 0) is.command_is in omega arith)
-backups (Put path key value) own is = absurd (let never : 98 ≡ 112 = ap (λ (word : Text). slice_index_or word 0 0) is.command_is in omega arith)
-backups (Del path key) own is = absurd (let never : 98 ≡ 100 = ap (λ (word : Text). slice_index_or word 0 0) is.command_is in omega arith)
-backups (Swap path key old new) own is = absurd (let never : 98 ≡ 115 = ap (λ (word : Text). slice_index_or word 0 0) is.command_is in omega arith)
-backups (Convert path new version) own is = absurd (let never : 98 ≡ 99 = ap (λ (word : Text). slice_index_or word 0 0) is.command_is in omega arith)
-backups (Pairs path texts) own is = absurd (let never : 98 ≡ 112 = ap (λ (word : Text). slice_index_or word 0 0) is.command_is in omega arith)
-backups (Create path texts) own is = absurd (let never : 98 ≡ 99 = ap (λ (word : Text). slice_index_or word 0 0) is.command_is in omega arith)
-backups Version own is = absurd (let never : 98 ≡ 118 = ap (λ (word : Text). slice_index_or word 0 0) is.command_is in omega arith)
-backups (Manual command) own is = absurd (let never : 98 ≡ 109 = ap (λ (word : Text). slice_index_or word 0 0) is.command_is in omega arith)
-backups (Backup path new) own is = record {
-  path = path;
-  new = new;
-  asked_is = refl;
   path_is = sym (first_value-rows (found_of own) path_id ∙ is.values.0);
   new_is = sym (first_value-rows (found_of own) new_id ∙ is.values.1);
 }
@@ -1254,14 +823,8 @@ versions (Check path) own is = absurd (let never : 118 ≡ 99 = ap (λ (word : T
 versions (Dump path) own is = absurd (let never : 118 ≡ 100 = ap (λ (word : Text). slice_index_or word 0 0) is.command_is in omega arith)
 versions (Load path long into) own is = absurd (let never : 118 ≡ 108 = ap (λ (word : Text). slice_index_or word 0 0) is.command_is in omega arith)
 versions (Storm texts) own is = absurd (let never : 118 ≡ 115 = ap (λ (word : Text). slice_index_or word 0 0) is.command_is in omega arith)
-versions (Get path word) own is = absurd (let never : 118 ≡ 103 = ap (λ (word : Text). slice_index_or word 0 0) is.command_is in omega arith)
-versions (Put path key value) own is = absurd (let never : 118 ≡ 112 = ap (λ (word : Text). slice_index_or word 0 0) is.command_is in omega arith)
-versions (Del path key) own is = absurd (let never : 118 ≡ 100 = ap (λ (word : Text). slice_index_or word 0 0) is.command_is in omega arith)
-versions (Swap path key old new) own is = absurd (let never : 118 ≡ 115 = ap (λ (word : Text). slice_index_or word 0 0) is.command_is in omega arith)
 versions (Convert path new version) own is = absurd (let never : 118 ≡ 99 = ap (λ (word : Text). slice_index_or word 0 0) is.command_is in omega arith)
 versions (Pairs path texts) own is = absurd (let never : 118 ≡ 112 = ap (λ (word : Text). slice_index_or word 0 0) is.command_is in omega arith)
-versions (Create path texts) own is = absurd (let never : 118 ≡ 99 = ap (λ (word : Text). slice_index_or word 0 0) is.command_is in omega arith)
-versions (Backup path new) own is = absurd (let never : 118 ≡ 98 = ap (λ (word : Text). slice_index_or word 0 0) is.command_is in omega arith)
 versions (Manual command) own is = absurd (let never : 118 ≡ 109 = ap (λ (word : Text). slice_index_or word 0 0) is.command_is in omega arith)
 versions Version own is = refl
 
@@ -1271,48 +834,35 @@ manuals (Check path) own is = absurd (let never : 109 ≡ 99 = ap (λ (word : Te
 manuals (Dump path) own is = absurd (let never : 109 ≡ 100 = ap (λ (word : Text). slice_index_or word 0 0) is.command_is in omega arith)
 manuals (Load path long into) own is = absurd (let never : 109 ≡ 108 = ap (λ (word : Text). slice_index_or word 0 0) is.command_is in omega arith)
 manuals (Storm texts) own is = absurd (let never : 109 ≡ 115 = ap (λ (word : Text). slice_index_or word 0 0) is.command_is in omega arith)
-manuals (Get path word) own is = absurd (let never : 109 ≡ 103 = ap (λ (word : Text). slice_index_or word 0 0) is.command_is in omega arith)
-manuals (Put path key value) own is = absurd (let never : 109 ≡ 112 = ap (λ (word : Text). slice_index_or word 0 0) is.command_is in omega arith)
-manuals (Del path key) own is = absurd (let never : 109 ≡ 100 = ap (λ (word : Text). slice_index_or word 0 0) is.command_is in omega arith)
-manuals (Swap path key old new) own is = absurd (let never : 109 ≡ 115 = ap (λ (word : Text). slice_index_or word 0 0) is.command_is in omega arith)
 manuals (Convert path new version) own is = absurd (let never : 109 ≡ 99 = ap (λ (word : Text). slice_index_or word 0 0) is.command_is in omega arith)
 manuals (Pairs path texts) own is = absurd (let never : 109 ≡ 112 = ap (λ (word : Text). slice_index_or word 0 0) is.command_is in omega arith)
-manuals (Create path texts) own is = absurd (let never : 109 ≡ 99 = ap (λ (word : Text). slice_index_or word 0 0) is.command_is in omega arith)
-manuals (Backup path new) own is = absurd (let never : 109 ≡ 98 = ap (λ (word : Text). slice_index_or word 0 0) is.command_is in omega arith)
 manuals Version own is = absurd (let never : 109 ≡ 118 = ap (λ (word : Text). slice_index_or word 0 0) is.command_is in omega arith)
 manuals (Manual command) own is = ap (λ command. Some (Manual command)) (sym (first_value-rows (found_of own) command_id ∙ is.values))
 
-pub no_options : (command : Text) → (command ≡ codes "check") ⊎ (command ≡ codes "dump") ⊎ (command ≡ codes "load") ⊎ (command ≡ codes "get") → (command ≡ codes "serve" → ⊥) × (command ≡ codes "storm" → ⊥) × (command ≡ codes "version" → ⊥) × (command ≡ codes "manual" → ⊥)
+pub no_options : (command : Text) → (command ≡ codes "check") ⊎ (command ≡ codes "dump") ⊎ (command ≡ codes "load") → (command ≡ codes "serve" → ⊥) × (command ≡ codes "storm" → ⊥) × (command ≡ codes "version" → ⊥) × (command ≡ codes "manual" → ⊥)
 no_options command is = (
-  λ same. begins_apart 115 is (ap (λ (word : Text). slice_index_or word 0 0) same) (omega arith) (omega arith) (omega arith) (omega arith),
-  λ same. begins_apart 115 is (ap (λ (word : Text). slice_index_or word 0 0) same) (omega arith) (omega arith) (omega arith) (omega arith),
-  λ same. begins_apart 118 is (ap (λ (word : Text). slice_index_or word 0 0) same) (omega arith) (omega arith) (omega arith) (omega arith),
-  λ same. begins_apart 109 is (ap (λ (word : Text). slice_index_or word 0 0) same) (omega arith) (omega arith) (omega arith) (omega arith),
+  λ same. begins_apart 115 is (ap (λ (word : Text). slice_index_or word 0 0) same) (omega arith) (omega arith) (omega arith),
+  λ same. begins_apart 115 is (ap (λ (word : Text). slice_index_or word 0 0) same) (omega arith) (omega arith) (omega arith),
+  λ same. begins_apart 118 is (ap (λ (word : Text). slice_index_or word 0 0) same) (omega arith) (omega arith) (omega arith),
+  λ same. begins_apart 109 is (ap (λ (word : Text). slice_index_or word 0 0) same) (omega arith) (omega arith) (omega arith),
 )
   where
-    begins_apart : (c : ℕ) → (command ≡ codes "check") ⊎ (command ≡ codes "dump") ⊎ (command ≡ codes "load") ⊎ (command ≡ codes "get") → slice_index_or command 0 0 ≡ c → (99 ≡ c → ⊥) → (100 ≡ c → ⊥) → (108 ≡ c → ⊥) → (103 ≡ c → ⊥) → ⊥
-    begins_apart c (inl is) begins check dump load get = check (ap (λ (word : Text). slice_index_or word 0 0) (sym is) ∙ begins)
-    begins_apart c (inr (inl is)) begins check dump load get = dump (ap (λ (word : Text). slice_index_or word 0 0) (sym is) ∙ begins)
-    begins_apart c (inr (inr (inl is))) begins check dump load get = load (ap (λ (word : Text). slice_index_or word 0 0) (sym is) ∙ begins)
-    begins_apart c (inr (inr (inr is))) begins check dump load get = get (ap (λ (word : Text). slice_index_or word 0 0) (sym is) ∙ begins)
+    begins_apart : (c : ℕ) → (command ≡ codes "check") ⊎ (command ≡ codes "dump") ⊎ (command ≡ codes "load") → slice_index_or command 0 0 ≡ c → (99 ≡ c → ⊥) → (100 ≡ c → ⊥) → (108 ≡ c → ⊥) → ⊥
+    begins_apart c (inl is) begins check dump load = check (ap (λ (word : Text). slice_index_or word 0 0) (sym is) ∙ begins)
+    begins_apart c (inr (inl is)) begins check dump load = dump (ap (λ (word : Text). slice_index_or word 0 0) (sym is) ∙ begins)
+    begins_apart c (inr (inr is)) begins check dump load = load (ap (λ (word : Text). slice_index_or word 0 0) (sym is) ∙ begins)
 
 -- there is no other command
-pub is_command : (asked : Asked) (command : Text) (own : ArgMatches) → IsOwn command own asked → (command ≡ codes "serve" → ⊥) → (command ≡ codes "check" → ⊥) → (command ≡ codes "dump" → ⊥) → (command ≡ codes "load" → ⊥) → (command ≡ codes "storm" → ⊥) → (command ≡ codes "get" → ⊥) → (command ≡ codes "put" → ⊥) → (command ≡ codes "del" → ⊥) → (command ≡ codes "swap" → ⊥) → (command ≡ codes "pairs" → ⊥) → (command ≡ codes "convert" → ⊥) → (command ≡ codes "create" → ⊥) → (command ≡ codes "backup" → ⊥) → (command ≡ codes "version" → ⊥) → (command ≡ codes "manual" → ⊥) → ⊥
-is_command (Serve opening saving) command own is no_serve no_check no_dump no_load no_storm no_get no_put no_del no_swap no_pairs no_convert no_create no_backup no_version no_manual = no_serve is.command_is
-is_command (Check path) command own is no_serve no_check no_dump no_load no_storm no_get no_put no_del no_swap no_pairs no_convert no_create no_backup no_version no_manual = no_check is.command_is
-is_command (Dump path) command own is no_serve no_check no_dump no_load no_storm no_get no_put no_del no_swap no_pairs no_convert no_create no_backup no_version no_manual = no_dump is.command_is
-is_command (Load path long into) command own is no_serve no_check no_dump no_load no_storm no_get no_put no_del no_swap no_pairs no_convert no_create no_backup no_version no_manual = no_load is.command_is
-is_command (Storm texts) command own is no_serve no_check no_dump no_load no_storm no_get no_put no_del no_swap no_pairs no_convert no_create no_backup no_version no_manual = no_storm is.command_is
-is_command (Get path word) command own is no_serve no_check no_dump no_load no_storm no_get no_put no_del no_swap no_pairs no_convert no_create no_backup no_version no_manual = no_get is.command_is
-is_command (Put path key value) command own is no_serve no_check no_dump no_load no_storm no_get no_put no_del no_swap no_pairs no_convert no_create no_backup no_version no_manual = no_put is.command_is
-is_command (Del path key) command own is no_serve no_check no_dump no_load no_storm no_get no_put no_del no_swap no_pairs no_convert no_create no_backup no_version no_manual = no_del is.command_is
-is_command (Swap path key old new) command own is no_serve no_check no_dump no_load no_storm no_get no_put no_del no_swap no_pairs no_convert no_create no_backup no_version no_manual = no_swap is.command_is
-is_command (Convert path new version) command own is no_serve no_check no_dump no_load no_storm no_get no_put no_del no_swap no_pairs no_convert no_create no_backup no_version no_manual = no_convert is.command_is
-is_command (Pairs path texts) command own is no_serve no_check no_dump no_load no_storm no_get no_put no_del no_swap no_pairs no_convert no_create no_backup no_version no_manual = no_pairs is.command_is
-is_command (Create path texts) command own is no_serve no_check no_dump no_load no_storm no_get no_put no_del no_swap no_pairs no_convert no_create no_backup no_version no_manual = no_create is.command_is
-is_command (Backup path new) command own is no_serve no_check no_dump no_load no_storm no_get no_put no_del no_swap no_pairs no_convert no_create no_backup no_version no_manual = no_backup is.command_is
-is_command Version command own is no_serve no_check no_dump no_load no_storm no_get no_put no_del no_swap no_pairs no_convert no_create no_backup no_version no_manual = no_version is.command_is
-is_command (Manual word) command own is no_serve no_check no_dump no_load no_storm no_get no_put no_del no_swap no_pairs no_convert no_create no_backup no_version no_manual = no_manual is.command_is
+pub is_command : (asked : Asked) (command : Text) (own : ArgMatches) → IsOwn command own asked → (command ≡ codes "serve" → ⊥) → (command ≡ codes "check" → ⊥) → (command ≡ codes "dump" → ⊥) → (command ≡ codes "load" → ⊥) → (command ≡ codes "storm" → ⊥) → (command ≡ codes "pairs" → ⊥) → (command ≡ codes "convert" → ⊥) → (command ≡ codes "version" → ⊥) → (command ≡ codes "manual" → ⊥) → ⊥
+is_command (Serve opening saving) command own is no_serve no_check no_dump no_load no_storm no_pairs no_convert no_version no_manual = no_serve is.command_is
+is_command (Check path) command own is no_serve no_check no_dump no_load no_storm no_pairs no_convert no_version no_manual = no_check is.command_is
+is_command (Dump path) command own is no_serve no_check no_dump no_load no_storm no_pairs no_convert no_version no_manual = no_dump is.command_is
+is_command (Load path long into) command own is no_serve no_check no_dump no_load no_storm no_pairs no_convert no_version no_manual = no_load is.command_is
+is_command (Storm texts) command own is no_serve no_check no_dump no_load no_storm no_pairs no_convert no_version no_manual = no_storm is.command_is
+is_command (Pairs path texts) command own is no_serve no_check no_dump no_load no_storm no_pairs no_convert no_version no_manual = no_pairs is.command_is
+is_command (Convert path new version) command own is no_serve no_check no_dump no_load no_storm no_pairs no_convert no_version no_manual = no_convert is.command_is
+is_command Version command own is no_serve no_check no_dump no_load no_storm no_pairs no_convert no_version no_manual = no_version is.command_is
+is_command (Manual word) command own is no_serve no_check no_dump no_load no_storm no_pairs no_convert no_version no_manual = no_manual is.command_is
 
 -- ---- the job of a command
 

@@ -3,7 +3,7 @@ use Rattle.std.proofs.Common.{◌≡◌, ◌∙◌, [], Bool, false, ap₂, code
 use Rattle.std.specs.Prelude.{◌||◌}
 use Rattle.clap.specs.Words.{App, Rule, Shape, with_rule, with_subcommand}
 use Rattle.exh_command.specs.Job.{convert_names, load_flags, pairs_names, serve_names, storm_names}
-use Rattle.exh_command.specs.Parser.{about_key, about_path, about_path_flagged, about_path_with, about_two_paths_with, about_two_values, about_value, about_word_perhaps, command_id, with_options}
+use Rattle.exh_command.specs.Parser.{about_path, about_path_flagged, about_path_with, about_two_paths_with, about_word_perhaps, command_id, with_options}
 use Rattle.exh_command.specs.Program.{bare_program}
 
 abbrev pub serve : Shape
@@ -21,23 +21,14 @@ pairs = about_path_with (codes "pairs") pairs_names
 abbrev pub convert : Shape
 convert = about_two_paths_with (codes "convert") convert_names
 
-abbrev pub create : Shape
-create = about_path_with (codes "create") pairs_names
-
-abbrev pub backup : Shape
-backup = about_two_paths_with (codes "backup") []
-
 abbrev pub version : Shape
 version = with_options (codes "version") []
 
 abbrev pub manual : Shape
 manual = about_word_perhaps (codes "manual") command_id
 
-abbrev before_new : App
-before_new = with_subcommand (with_subcommand (with_subcommand (with_subcommand (with_subcommand (with_subcommand (with_subcommand (with_subcommand (with_subcommand (with_subcommand (with_subcommand bare_program serve) (about_path (codes "check"))) (about_path (codes "dump"))) load) storm) (about_key (codes "get"))) (about_value (codes "put"))) (about_key (codes "del"))) (about_two_values (codes "swap"))) pairs) convert
-
 abbrev pub program : App
-program = with_subcommand (with_subcommand (with_subcommand (with_subcommand before_new create) backup) version) manual
+program = with_subcommand (with_subcommand (with_subcommand (with_subcommand (with_subcommand (with_subcommand (with_subcommand (with_subcommand (with_subcommand bare_program serve) (about_path (codes "check"))) (about_path (codes "dump"))) load) storm) pairs) convert) version) manual
 
 -- rules added one behind the other, none of them of the commands below
 pub own_still : {was global now : Bool} → was ≡ false → global ≡ false → now ≡ (was || global) → now ≡ false

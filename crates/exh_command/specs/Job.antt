@@ -4,18 +4,12 @@ use Rattle.std.specs.Str.{bytes_eq}
 use Rattle.exh_page.specs.declared.page.TheConstants.{CAP_LIMIT}
 use Rattle.exh_prefix.specs.declared.prefix.TheConstants.{WARD_BITS_LIMIT}
 use Rattle.exh_keyer.specs.declared.any_keyer.AnyKeyer.{AnyKeyer}
-use Rattle.exh_keyer.specs.declared.any_keyer.AnyKeyer.TheVariants.{Sha}
 use Rattle.exh_settings.specs.Keyers.{keyer_named}
-use Rattle.exh_calls.specs.declared.call.Call.{Call}
-use Rattle.exh_calls.specs.declared.call.Call.TheVariants as calls
-use Rattle.exh_text.specs.ByteWord.{bytes_of_word, key_in_range, value_in_range}
 use Rattle.exh_text.specs.Numbers.{number_spelled}
-use Rattle.exh_settings.specs.FileSettings.{AreInRange}
 use Rattle.exh_settings.specs.StormConfig.{IsStormConfig}
-use Rattle.exh_settings.specs.declared.file_settings.FileSettings.{FileSettings}
 use Rattle.exh_settings.specs.declared.storm_config.StormConfig.{StormConfig}
 use Rattle.exh_settings.specs.declared.storm_config.TheConstants.{CALLERS_LIMIT, CALLS_LIMIT, COPIES_LIMIT}
-use Rattle.exh_command.specs.Words.{Use, flags_and_path, new_path_name, path_and_key, path_and_three, path_and_two, path_name, path_named, uses_and_path, uses_and_two_paths, uses_named, option_given, word_perhaps}
+use Rattle.exh_command.specs.Words.{Use, flags_and_path, new_path_name, path_name, path_named, uses_and_path, uses_and_two_paths, uses_named, option_given, word_perhaps}
 use Rattle.exh_command.specs.declared.job.Job.{Job}
 use Rattle.exh_command.specs.declared.load_way.LoadWay.{LoadWay}
 use Rattle.exh_command.specs.declared.load_way.LoadWay.TheVariants.{Short, Long, Into}
@@ -31,7 +25,7 @@ pub record StormTexts : Type 0 where
   pub wards : Option (List ℕ)
   pub copies : Option (List ℕ)
 
--- the texts of the settings of a text of pairs, or of a new file, where they were given
+-- the texts of the settings of a text of pairs, where they were given
 pub record PairsTexts : Type 0 where
   pub cap : Option (List ℕ)
   pub wards : Option (List ℕ)
@@ -46,38 +40,24 @@ pub data Asked : Type 0 where
   -- the file, and whether each of the two flags is there
   Load : List ℕ → Bool → Bool → Asked
   Storm : StormTexts → Asked
-  -- the file, and the word of the key
-  Get : List ℕ → List ℕ → Asked
-  -- the file, and the words of the key and of the values
-  Put : List ℕ → List ℕ → List ℕ → Asked
-  Del : List ℕ → List ℕ → Asked
-  Swap : List ℕ → List ℕ → List ℕ → List ℕ → Asked
   -- the file, and the settings that its text is to begin with
   Pairs : List ℕ → PairsTexts → Asked
   -- the file, the new one, and the number of its version
   Convert : List ℕ → List ℕ → Option (List ℕ) → Asked
-  -- the new file, and its settings
-  Create : List ℕ → PairsTexts → Asked
-  -- the file, and the new one
-  Backup : List ℕ → List ℕ → Asked
   Version : Asked
   -- the command that the manual is to tell of
   Manual : Option (List ℕ) → Asked
 
--- a job, with the texts of its paths, its numbers and the bytes of its key
+-- a job, with the texts of its paths and its numbers
 pub data Named : Type 0 where
   Serving : Option (List ℕ) → Option (List ℕ) → Named
   Checking : List ℕ → Named
   Dumping : List ℕ → Named
   Loading : List ℕ → LoadWay → Named
   Storming : StormConfig → Named
-  Getting : List ℕ → List ℕ → Named
-  Changing : List ℕ → Call → Named
   -- the cap, the ward bits and the keyer that were given
   Pairing : List ℕ → Option ℕ → Option ℕ → Option AnyKeyer → Named
   Converting : List ℕ → List ℕ → PageFileVersion → Named
-  Creating : List ℕ → FileSettings AnyKeyer → Named
-  Copying : List ℕ → List ℕ → Named
   TellingVersion : Named
   TellingManual : Option (List ℕ) → Named
 
@@ -87,28 +67,20 @@ named_of (jobs.Check path) = Checking path.now
 named_of (jobs.Dump path) = Dumping path.now
 named_of (jobs.Load path way) = Loading path.now way
 named_of (jobs.Storm config) = Storming config
-named_of (jobs.Get path key) = Getting path.now key
-named_of (jobs.Change path call) = Changing path.now call
 named_of (jobs.Pairs path cap ward_bits keyer) = Pairing path.now cap ward_bits keyer
 named_of (jobs.Convert path new version) = Converting path.now new.now version
-named_of (jobs.Create path settings) = Creating path.now settings
-named_of (jobs.Backup path new) = Copying path.now new.now
 named_of jobs.Version = TellingVersion
 named_of (jobs.Manual command) = TellingManual (option_map (λ word. word.now) command)
 
--- the numbers of a storm, those of a text of pairs and those of a new file are within the limits
+-- the numbers of a storm and those of a text of pairs are within the limits
 abbrev pub IsWithinLimits : Job → Type 0
 IsWithinLimits (jobs.Serve opened saved) = ⊤
 IsWithinLimits (jobs.Check path) = ⊤
 IsWithinLimits (jobs.Dump path) = ⊤
 IsWithinLimits (jobs.Load path way) = ⊤
 IsWithinLimits (jobs.Storm config) = IsStormConfig config
-IsWithinLimits (jobs.Get path key) = ⊤
-IsWithinLimits (jobs.Change path call) = ⊤
 IsWithinLimits (jobs.Pairs path cap ward_bits keyer) = IfSome cap (λ cap. (1 ≤ cap) × (cap ≤ CAP_LIMIT)) × IfSome ward_bits (λ bits. bits ≤ WARD_BITS_LIMIT)
 IsWithinLimits (jobs.Convert path new version) = ⊤
-IsWithinLimits (jobs.Create path settings) = AreInRange settings
-IsWithinLimits (jobs.Backup path new) = ⊤
 IsWithinLimits jobs.Version = ⊤
 IsWithinLimits (jobs.Manual command) = ⊤
 
@@ -177,32 +149,6 @@ stormed_by uses = Storm (record {
 abbrev pub storm_asked : List (List ℕ) → Option Asked
 storm_asked words = option_map stormed_by (uses_named storm_names words)
 
--- `get` takes a path and a key
-abbrev pub got_by : List ℕ × List ℕ → Asked
-got_by words = Get words.0 words.1
-
-abbrev pub get_asked : List (List ℕ) → Option Asked
-get_asked words = option_map got_by (path_and_key words)
-
--- `put`, `del` and `swap` take a path, a key and the values of the call
-abbrev pub put_by : List ℕ × List ℕ × List ℕ → Asked
-put_by words = Put words.0 words.1 words.2
-
-abbrev pub put_asked : List (List ℕ) → Option Asked
-put_asked words = option_map put_by (path_and_two words)
-
-abbrev pub deleted_by : List ℕ × List ℕ → Asked
-deleted_by words = Del words.0 words.1
-
-abbrev pub del_asked : List (List ℕ) → Option Asked
-del_asked words = option_map deleted_by (path_and_key words)
-
-abbrev pub swapped_by : List ℕ × List ℕ × List ℕ × List ℕ → Asked
-swapped_by words = Swap words.0 words.1 words.2 words.3
-
-abbrev pub swap_asked : List (List ℕ) → Option Asked
-swap_asked words = option_map swapped_by (path_and_three words)
-
 -- `pairs` takes a path, and three options
 abbrev pub keyer_name : List ℕ
 keyer_name = codes "keyer"
@@ -233,24 +179,6 @@ converted_by uses = Convert (unwrap_or (option_given path_name uses) []) (unwrap
 abbrev pub convert_asked : List (List ℕ) → Option Asked
 convert_asked words = option_map converted_by (uses_and_two_paths convert_names words)
 
--- `create` takes a path, and the options of `pairs`
-abbrev pub created_by : List Use → Asked
-created_by uses = Create (unwrap_or (option_given path_name uses) []) (record {
-  cap = option_given cap_name uses;
-  wards = option_given wards_name uses;
-  keyer = option_given keyer_name uses;
-})
-
-abbrev pub create_asked : List (List ℕ) → Option Asked
-create_asked words = option_map created_by (uses_and_path pairs_names words)
-
--- `backup` takes a path and a new one
-abbrev pub backed_by : List Use → Asked
-backed_by uses = Backup (unwrap_or (option_given path_name uses) []) (unwrap_or (option_given new_path_name uses) [])
-
-abbrev pub backup_asked : List (List ℕ) → Option Asked
-backup_asked words = option_map backed_by (uses_and_two_paths [] words)
-
 -- `version` takes nothing
 abbrev pub versioned_by : List Use → Asked
 versioned_by uses = Version
@@ -274,16 +202,10 @@ asked_by (program ∷ command ∷ rest) =
     else (if bytes_eq (codes "dump") command then option_map Dump (path_named rest)
     else (if bytes_eq (codes "load") command then load_asked rest
     else (if bytes_eq (codes "storm") command then storm_asked rest
-    else (if bytes_eq (codes "get") command then get_asked rest
-    else (if bytes_eq (codes "put") command then put_asked rest
-    else (if bytes_eq (codes "del") command then del_asked rest
-    else (if bytes_eq (codes "swap") command then swap_asked rest
     else (if bytes_eq (codes "pairs") command then pairs_asked rest
     else (if bytes_eq (codes "convert") command then convert_asked rest
-    else (if bytes_eq (codes "create") command then create_asked rest
-    else (if bytes_eq (codes "backup") command then backup_asked rest
     else (if bytes_eq (codes "version") command then version_asked rest
-    else (if bytes_eq (codes "manual") command then manual_asked rest else None))))))))))))))
+    else (if bytes_eq (codes "manual") command then manual_asked rest else None))))))))
 
 -- ---- the numbers of a storm
 
@@ -329,22 +251,6 @@ pairing_of path texts =
     (number_given 0 WARD_BITS_LIMIT texts.wards))
     (number_given 1 CAP_LIMIT texts.cap)
 
--- ---- the settings of a new file
-
--- the keyer that a text names, or the usual one, where there is no text
-abbrev pub keyer_of : Option (List ℕ) → Option AnyKeyer
-keyer_of None = Some Sha
-keyer_of (Some word) = keyer_named word
-
-abbrev pub creation_of : PairsTexts → Option (FileSettings AnyKeyer)
-creation_of texts =
-    option_and_then (λ cap.
-    option_and_then (λ bits.
-    option_and_then (λ keyer. Some (record { cap = cap; ward_bits = bits; keyer = keyer }))
-    (keyer_of texts.keyer))
-    (number_of 0 0 WARD_BITS_LIMIT texts.wards))
-    (number_of 16 1 CAP_LIMIT texts.cap)
-
 -- ---- the commands of which the manual tells
 
 abbrev pub is_command_name : List ℕ → Bool
@@ -377,43 +283,15 @@ way_of true false = Some Long
 way_of false true = Some Into
 way_of true true = None
 
--- ---- the key of a get
-
--- the key that a word spells
-abbrev pub key_spelled : List ℕ → Option (List ℕ)
-key_spelled word = option_and_then (λ key. if key_in_range key then Some key else None) (bytes_of_word word)
-
--- ---- the calls that change a key
-
--- the value that a word spells
-abbrev pub value_spelled : List ℕ → Option (List ℕ)
-value_spelled word = option_and_then (λ value. if value_in_range value then Some value else None) (bytes_of_word word)
-
--- the call that words spell, where each of them spells a key or a value
-abbrev pub put_spelled : List ℕ → List ℕ → Option Call
-put_spelled key value = option_and_then (λ k. option_map (calls.Put k) (value_spelled value)) (key_spelled key)
-
-abbrev pub del_spelled : List ℕ → Option Call
-del_spelled key = option_map calls.Del (key_spelled key)
-
-abbrev pub swap_spelled : List ℕ → List ℕ → List ℕ → Option Call
-swap_spelled key old new = option_and_then (λ k. option_and_then (λ o. option_map (calls.Swap k o) (value_spelled new)) (value_spelled old)) (key_spelled key)
-
--- the job that a command comes to: of a load where its flags say a way, of a storm, of pairs and of a new file where all their numbers and keyers are some, of a conversion where its version is one, of a command about a key where its words spell a key and values, of the manual where its word is a command
+-- the job that a command comes to: of a load where its flags say a way, of a storm and of pairs where all their numbers and keyers are some, of a conversion where its version is one, of the manual where its word is a command
 abbrev pub job_asked : Asked → Option Named
 job_asked (Serve opened saved) = Some (Serving opened saved)
 job_asked (Check path) = Some (Checking path)
 job_asked (Dump path) = Some (Dumping path)
 job_asked (Load path long into) = option_map (Loading path) (way_of long into)
 job_asked (Storm texts) = option_map Storming (storm_of texts)
-job_asked (Get path word) = option_map (Getting path) (key_spelled word)
-job_asked (Put path key value) = option_map (Changing path) (put_spelled key value)
-job_asked (Del path key) = option_map (Changing path) (del_spelled key)
-job_asked (Swap path key old new) = option_map (Changing path) (swap_spelled key old new)
 job_asked (Pairs path texts) = pairing_of path texts
 job_asked (Convert path new version) = option_map (Converting path new) (version_of version)
-job_asked (Create path texts) = option_map (Creating path) (creation_of texts)
-job_asked (Backup path new) = Some (Copying path new)
 job_asked Version = Some TellingVersion
 job_asked (Manual command) = manual_of command
 
@@ -432,13 +310,7 @@ command_of (Check path) = codes "check"
 command_of (Dump path) = codes "dump"
 command_of (Load path long into) = codes "load"
 command_of (Storm texts) = codes "storm"
-command_of (Get path word) = codes "get"
-command_of (Put path key value) = codes "put"
-command_of (Del path key) = codes "del"
-command_of (Swap path key old new) = codes "swap"
 command_of (Pairs path texts) = codes "pairs"
 command_of (Convert path new version) = codes "convert"
-command_of (Create path texts) = codes "create"
-command_of (Backup path new) = codes "backup"
 command_of Version = codes "version"
 command_of (Manual command) = codes "manual"

@@ -8,7 +8,7 @@ use Rattle.clap.specs.declared.builder.command.Command.TheViews.{out-Command}
 use Rattle.clap.specs.declared.parser.matches.ArgMatches.{ArgMatches}
 use Rattle.clap.specs.declared.parser.matches.Found.{Found}
 use Rattle.clap.specs.declared.error.kind.ErrorKind.TheVariants.{DisplayVersion}
-use Rattle.exh_command.specs.Job.{Asked, Backup, Check, Convert, Create, Del, Dump, Get, Load, Manual, Pairs, PairsTexts, Put, Serve, Storm, StormTexts, Swap, Version, asked_by, callers_name, calls_name, cap_name, command_of, copies_name, into_name, keyer_name, long_name, open_name, save_name, version_name, wards_name}
+use Rattle.exh_command.specs.Job.{Asked, Check, Convert, Dump, Load, Manual, Pairs, PairsTexts, Serve, Storm, StormTexts, Version, asked_by, callers_name, calls_name, cap_name, command_of, copies_name, into_name, keyer_name, long_name, open_name, save_name, version_name, wards_name}
 use Rattle.exh_command.specs.Words.{flag_set}
 
 -- ---- arguments
@@ -20,20 +20,7 @@ path_id = codes "PATH"
 abbrev pub path_rule : Rule
 path_rule = record (new_rule path_id) { required = true }
 
--- the word by which a key is called
-abbrev pub key_id : List ℕ
-key_id = codes "KEY"
-
-abbrev pub key_rule : Rule
-key_rule = record (new_rule key_id) { required = true }
-
--- the words by which values are called
-abbrev pub value_id : List ℕ
-value_id = codes "VALUE"
-
-abbrev pub old_id : List ℕ
-old_id = codes "OLD"
-
+-- the word by which a new path is called
 abbrev pub new_id : List ℕ
 new_id = codes "NEW"
 
@@ -44,15 +31,6 @@ command_id = codes "COMMAND"
 -- a word that has to be there
 abbrev pub word_rule : List ℕ → Rule
 word_rule name = record (new_rule name) { required = true }
-
-abbrev pub value_rule : Rule
-value_rule = word_rule value_id
-
-abbrev pub old_rule : Rule
-old_rule = word_rule old_id
-
-abbrev pub new_value_rule : Rule
-new_value_rule = word_rule new_id
 
 -- an option with one value
 abbrev pub option_rule : List ℕ → Rule
@@ -65,17 +43,6 @@ flag_rule name = record (new_rule name) { long = Some name; action = Some SetTru
 -- a command about one path
 abbrev pub about_path : List ℕ → Shape
 about_path name = record (new_shape name) { rules = path_rule ∷ [] }
-
--- and about a key of its file
-abbrev pub about_key : List ℕ → Shape
-about_key name = record (new_shape name) { rules = path_rule ∷ key_rule ∷ [] }
-
--- and about a value of the key, or about two
-abbrev pub about_value : List ℕ → Shape
-about_value name = record (new_shape name) { rules = path_rule ∷ key_rule ∷ value_rule ∷ [] }
-
-abbrev pub about_two_values : List ℕ → Shape
-about_two_values name = record (new_shape name) { rules = path_rule ∷ key_rule ∷ old_rule ∷ new_value_rule ∷ [] }
 
 -- a command with such options
 abbrev pub with_options : List ℕ → List (List ℕ) → Shape
@@ -115,7 +82,7 @@ pub record HasTexts (texts : StormTexts) (rows : List Row) : Type 0 where
   pub wards : first_of wards_name rows ≡ texts.wards
   pub copies : first_of copies_name rows ≡ texts.copies
 
--- what was met of pairs, or of a new file, gives these texts
+-- what was met of pairs gives these texts
 pub record HasPairsTexts (texts : PairsTexts) (rows : List Row) : Type 0 where
   pub cap : first_of cap_name rows ≡ texts.cap
   pub wards : first_of wards_name rows ≡ texts.wards
@@ -133,14 +100,8 @@ HasValues (Check path) rows = first_of path_id rows ≡ Some path
 HasValues (Dump path) rows = first_of path_id rows ≡ Some path
 HasValues (Load path long into) rows = (first_of path_id rows ≡ Some path) × (one_of long_name rows ≡ Some (flag_text long)) × (one_of into_name rows ≡ Some (flag_text into))
 HasValues (Storm texts) rows = HasTexts texts rows
-HasValues (Get path word) rows = (first_of path_id rows ≡ Some path) × (first_of key_id rows ≡ Some word)
-HasValues (Put path key value) rows = (first_of path_id rows ≡ Some path) × (first_of key_id rows ≡ Some key) × (first_of value_id rows ≡ Some value)
-HasValues (Del path key) rows = (first_of path_id rows ≡ Some path) × (first_of key_id rows ≡ Some key)
-HasValues (Swap path key old new) rows = (first_of path_id rows ≡ Some path) × (first_of key_id rows ≡ Some key) × (first_of old_id rows ≡ Some old) × (first_of new_id rows ≡ Some new)
 HasValues (Pairs path texts) rows = (first_of path_id rows ≡ Some path) × HasPairsTexts texts rows
 HasValues (Convert path new version) rows = (first_of path_id rows ≡ Some path) × (first_of new_id rows ≡ Some new) × (first_of version_name rows ≡ version)
-HasValues (Create path texts) rows = (first_of path_id rows ≡ Some path) × HasPairsTexts texts rows
-HasValues (Backup path new) rows = (first_of path_id rows ≡ Some path) × (first_of new_id rows ≡ Some new)
 HasValues Version rows = ⊤
 HasValues (Manual command) rows = first_of command_id rows ≡ command
 
@@ -183,6 +144,6 @@ texts_of found = record {
   copies = first_value found copies_name;
 }
 
--- and for the settings of a text of pairs, or of a new file
+-- and for the settings of a text of pairs
 abbrev pub pairs_texts_of : Found → PairsTexts
 pairs_texts_of found = record { cap = first_value found cap_name; wards = first_value found wards_name; keyer = first_value found keyer_name }

@@ -2,32 +2,30 @@
 ghost use Rattle.std.specs.Prelude.{◌≡◌, ◌<◌, ◌≤◌, ◌^◌, ℕ, Bool, List, Some, None, map, option_and_then, option_map, IfOk, IfErr, IfSome, IsSome};
 ghost use Rattle.clap.specs.Words.{first_value, found_of, one_text};
 ghost use Rattle.exh_command.specs.CommandFault.{IsWrong, TellsVersion};
-ghost use Rattle.exh_command.specs.Job.{AskForVersion, Asked, Convert, Create, Del, Get, IsWithinLimits, Load, Manual, Pairs, Put, Storm, Swap, creation_of, del_spelled, is_command_name, job_asked, job_named, key_spelled, keyer_given, keyer_name, keyer_of, named_of, number_given, number_of, pairing_of, put_spelled, storm_of, swap_spelled, value_spelled, version_name, version_of, way_of};
-ghost use Rattle.exh_command.specs.Parser.{HasFlags, IsJobMet, IsSomeJobMet, command_id, flag_text, key_id, new_id, old_id, pairs_texts_of, path_id, texts_of, value_id};
-ghost use Rattle.exh_settings.specs.FileSettings.{AreInRange};
+ghost use Rattle.exh_command.specs.Job.{AskForVersion, Asked, Convert, IsWithinLimits, Load, Manual, Pairs, Storm, is_command_name, job_asked, job_named, keyer_given, keyer_name, named_of, number_given, number_of, pairing_of, storm_of, version_name, version_of, way_of};
+ghost use Rattle.exh_command.specs.Parser.{HasFlags, IsJobMet, IsSomeJobMet, command_id, flag_text, new_id, pairs_texts_of, path_id, texts_of};
 ghost use Rattle.exh_settings.specs.StormConfig.{IsStormConfig};
 
 use crate::fault::CliFault;
+use crate::help::{told_by_program, usage_error};
 use crate::load_way::LoadWay;
-use crate::page_file_version::PageFileVersion;
-use crate::parser::{
+use crate::names::{
     BACKUP, CALLERS, CALLS, CAP, CHECK, COMMAND, CONVERT, COPIES, CREATE, DEL, DUMP, GET, INTO,
-    KEY, KEYER, LOAD, LONG, MANUAL, NEW, OLD, OPEN, PAIRS, PATH, PUT, SAVE, SERVE, STORM, SWAP,
-    VALUE, VERSION, WARDS, parser, wrong_flags, wrong_value,
+    KEYER, LOAD, LONG, MANUAL, NEW, OPEN, PAIRS, PATH, PUT, SAVE, SERVE, STORM, SWAP, VERSION,
+    WARDS,
 };
+use crate::page_file_version::PageFileVersion;
+use crate::parser::parser;
 use clap::ArgMatches;
-use exh_calls::Call;
 use exh_keyer::AnyKeyer;
-use exh_page::{CAP_LIMIT, Key, Value};
+use exh_page::CAP_LIMIT;
 use exh_prefix::WARD_BITS_LIMIT;
-use exh_settings::{
-    CALLERS_LIMIT, CALLS_LIMIT, COPIES_LIMIT, FileSettings, StormConfig, keyer_named,
-};
-use exh_text::{ByteWord, parse_key, parse_u32};
+use exh_settings::{CALLERS_LIMIT, CALLS_LIMIT, COPIES_LIMIT, StormConfig, keyer_named};
+use exh_text::parse_u32;
 use std::alloc::Global;
 use std::convert::AsStr;
 
-/// A command of the program, with its paths, numbers and key, or its call.
+/// A command of the program that is no everyday one, with its paths and numbers.
 #[derive(Clone, Copy)]
 pub enum Job<'w> {
     /// Answer the script on standard input, over the page file of a path where one is to be opened, and save the wards
@@ -53,16 +51,6 @@ pub enum Job<'w> {
     Storm {
         config: StormConfig,
     },
-    /// Print the value of a key of the page file of a path.
-    Get {
-        path: &'w str,
-        key: Key,
-    },
-    /// Answer a put, a del or a swap by the page file of a path, and save what it leaves.
-    Change {
-        path: &'w str,
-        call: Call,
-    },
     /// Print the pairs of the page file of a path, behind a first line with these settings in place of the file's.
     Pairs {
         path: &'w str,
@@ -76,16 +64,6 @@ pub enum Job<'w> {
         new: &'w str,
         version: PageFileVersion,
     },
-    /// Make a page file of version 3 of these settings, without pairs, at a path.
-    Create {
-        path: &'w str,
-        settings: FileSettings<AnyKeyer>,
-    },
-    /// Copy one state of the page file of a path to a new path.
-    Backup {
-        path: &'w str,
-        new: &'w str,
-    },
     /// Tell the program's version.
     Version,
     /// Tell what help says of the program, or of this command.
@@ -94,15 +72,31 @@ pub enum Job<'w> {
     },
 }
 
-/// The job that the words of a command line name, of which the first is the program's name.
+/// The job that the words of a command line name, of which the first is the program's name. Those of an everyday command
+/// name none.
 ///
 /// # Errors
 ///
 /// `CliFault::Wrong` only where the words name no job, as in a call for help, or for the version,
-/// which its text then tells; a number that is none, or out of range, a key or value that is none, a version that
-/// `convert` doesn't write, a command that there isn't to tell of, and both flags of `load` are such words too.
+/// which its text then tells; a number that is none, or out of range, a version that `convert` doesn't write, a command
+/// that there isn't to tell of, and both flags of `load` are such words too.
 /// `CliFault::Memory` may come at any words.
 pub fn job_of<'w, S: AsStr>(alloc: Global, words: &'w [S]) -> Result<Job<'w>, CliFault>
+    ensures named { IfOk result (λ job. job_named (map S.text words.now) ≡ Some (named_of job)) }
+    ensures limits { IfOk result IsWithinLimits }
+    ensures wrong { IfErr result (λ fault.
+        IsWrong fault → job_named (map S.text words.now) ≡ None) }
+    ensures version { IfErr result (λ fault.
+        AskForVersion (map S.text words.now) → TellsVersion fault) }
+{
+    match job_read(alloc, words) {
+        Ok(job) => Ok(job),
+        Err(fault) => Err(told_by_program(alloc, words, fault)),
+    }
+}
+
+// The same, with the faults that a program without the everyday commands tells.
+fn job_read<'w, S: AsStr>(alloc: Global, words: &'w [S]) -> Result<Job<'w>, CliFault>
     ensures named { IfOk result (λ job. job_named (map S.text words.now) ≡ Some (named_of job)) }
     ensures limits { IfOk result IsWithinLimits }
     ensures wrong { IfErr result (λ fault.
@@ -133,17 +127,8 @@ fn job_met<'w>(alloc: Global, matches: &ArgMatches<'w>) -> Result<Job<'w>, CliFa
         DUMP => Ok(Job::Dump { path: path_in(own) }),
         LOAD => load_job(alloc, own),
         STORM => storm_job(alloc, own),
-        GET => get_job(alloc, own),
-        PUT => put_job(alloc, own),
-        DEL => del_job(alloc, own),
-        SWAP => swap_job(alloc, own),
         PAIRS => pairs_job(alloc, own),
         CONVERT => convert_job(alloc, own),
-        CREATE => create_job(alloc, own),
-        BACKUP => Ok(Job::Backup {
-            path: path_in(own),
-            new: new_path_in(own),
-        }),
         VERSION => Ok(Job::Version),
         MANUAL => manual_job(alloc, own),
         _ => unreachable!(),
@@ -173,7 +158,11 @@ fn load_job<'w>(alloc: Global, own: &ArgMatches<'w>) -> Result<Job<'w>, CliFault
             path: path_in(own),
             way,
         }),
-        None => Err(CliFault::Wrong(wrong_flags(alloc)?)),
+        None => Err(usage_error(
+            alloc,
+            LOAD,
+            "the argument '--long' cannot be used with '--into'",
+        )),
     }
 }
 
@@ -191,168 +180,6 @@ fn flag_in(own: &ArgMatches<'_>, name: &str) -> bool
     own.get_flag(name)
 }
 
-// The get of the path and the key that were given.
-fn get_job<'w>(alloc: Global, own: &ArgMatches<'w>) -> Result<Job<'w>, CliFault>
-    requires path { IsSome (first_value (found_of own.now) path_id) }
-    requires key { IsSome (first_value (found_of own.now) key_id) }
-    ensures named { IfOk result (λ job. (path word : List ℕ) → Some path ≡ first_value (found_of own.now) path_id → Some word ≡ first_value (found_of own.now) key_id
-        → job_asked (Get path word) ≡ Some (named_of job)) }
-    ensures limits { IfOk result IsWithinLimits }
-    ensures wrong { IfErr result (λ fault. IsWrong fault → (path word : List ℕ) → Some word ≡ first_value (found_of own.now) key_id → job_asked (Get path word) ≡ None) }
-{
-    match key_in(own) {
-        Some(key) => Ok(Job::Get {
-            path: path_in(own),
-            key,
-        }),
-        None => Err(CliFault::Wrong(wrong_value(
-            alloc,
-            "`get` takes a KEY of 1 to 64 bytes, as `exhash get --help` tells",
-        )?)),
-    }
-}
-
-// The put of the path, the key and the value that were given.
-fn put_job<'w>(alloc: Global, own: &ArgMatches<'w>) -> Result<Job<'w>, CliFault>
-    requires path { IsSome (first_value (found_of own.now) path_id) }
-    requires key { IsSome (first_value (found_of own.now) key_id) }
-    requires value { IsSome (first_value (found_of own.now) value_id) }
-    ensures named { IfOk result (λ job. (path key value : List ℕ) → Some path ≡ first_value (found_of own.now) path_id → Some key ≡ first_value (found_of own.now) key_id → Some value ≡ first_value (found_of own.now) value_id
-        → job_asked (Put path key value) ≡ Some (named_of job)) }
-    ensures limits { IfOk result IsWithinLimits }
-    ensures wrong { IfErr result (λ fault. IsWrong fault → (path key value : List ℕ) → Some key ≡ first_value (found_of own.now) key_id → Some value ≡ first_value (found_of own.now) value_id
-        → job_asked (Put path key value) ≡ None) }
-{
-    match put_in(own) {
-        Some(call) => Ok(Job::Change {
-            path: path_in(own),
-            call,
-        }),
-        None => Err(CliFault::Wrong(wrong_value(alloc, wrong_put(own))?)),
-    }
-}
-
-// The del of the path and the key that were given.
-fn del_job<'w>(alloc: Global, own: &ArgMatches<'w>) -> Result<Job<'w>, CliFault>
-    requires path { IsSome (first_value (found_of own.now) path_id) }
-    requires key { IsSome (first_value (found_of own.now) key_id) }
-    ensures named { IfOk result (λ job. (path key : List ℕ) → Some path ≡ first_value (found_of own.now) path_id → Some key ≡ first_value (found_of own.now) key_id → job_asked (Del path key) ≡ Some (named_of job)) }
-    ensures limits { IfOk result IsWithinLimits }
-    ensures wrong { IfErr result (λ fault. IsWrong fault → (path key : List ℕ) → Some key ≡ first_value (found_of own.now) key_id → job_asked (Del path key) ≡ None) }
-{
-    match del_in(own) {
-        Some(call) => Ok(Job::Change {
-            path: path_in(own),
-            call,
-        }),
-        None => Err(CliFault::Wrong(wrong_value(
-            alloc,
-            "`del` takes a KEY of 1 to 64 bytes, as `exhash put --help` tells",
-        )?)),
-    }
-}
-
-// The swap of the path, the key and the values that were given.
-fn swap_job<'w>(alloc: Global, own: &ArgMatches<'w>) -> Result<Job<'w>, CliFault>
-    requires path { IsSome (first_value (found_of own.now) path_id) }
-    requires key { IsSome (first_value (found_of own.now) key_id) }
-    requires old { IsSome (first_value (found_of own.now) old_id) }
-    requires new { IsSome (first_value (found_of own.now) new_id) }
-    ensures named { IfOk result (λ job. (path key old new : List ℕ) → Some path ≡ first_value (found_of own.now) path_id → Some key ≡ first_value (found_of own.now) key_id
-        → Some old ≡ first_value (found_of own.now) old_id → Some new ≡ first_value (found_of own.now) new_id → job_asked (Swap path key old new) ≡ Some (named_of job)) }
-    ensures limits { IfOk result IsWithinLimits }
-    ensures wrong { IfErr result (λ fault. IsWrong fault → (path key old new : List ℕ) → Some key ≡ first_value (found_of own.now) key_id
-        → Some old ≡ first_value (found_of own.now) old_id → Some new ≡ first_value (found_of own.now) new_id → job_asked (Swap path key old new) ≡ None) }
-{
-    match swap_in(own) {
-        Some(call) => Ok(Job::Change {
-            path: path_in(own),
-            call,
-        }),
-        None => Err(CliFault::Wrong(wrong_value(alloc, wrong_swap(own))?)),
-    }
-}
-
-// The put that the words given for its key and its value spell.
-fn put_in(own: &ArgMatches<'_>) -> Option<Call>
-    requires key { IsSome (first_value (found_of own.now) key_id) }
-    requires value { IsSome (first_value (found_of own.now) value_id) }
-    ensures { (key value : List ℕ) → Some key ≡ first_value (found_of own.now) key_id → Some value ≡ first_value (found_of own.now) value_id → result ≡ put_spelled key value }
-{
-    let key = key_in(own)?;
-    let value = value_in(own, VALUE)?;
-    Some(Call::Put { key, value })
-}
-
-// The del that the word given for its key spells.
-fn del_in(own: &ArgMatches<'_>) -> Option<Call>
-    requires key { IsSome (first_value (found_of own.now) key_id) }
-    ensures { (key : List ℕ) → Some key ≡ first_value (found_of own.now) key_id → result ≡ del_spelled key }
-{
-    let key = key_in(own)?;
-    Some(Call::Del { key })
-}
-
-// The swap that the words given for its key and its values spell.
-fn swap_in(own: &ArgMatches<'_>) -> Option<Call>
-    requires key { IsSome (first_value (found_of own.now) key_id) }
-    requires old { IsSome (first_value (found_of own.now) old_id) }
-    requires new { IsSome (first_value (found_of own.now) new_id) }
-    ensures { (key old new : List ℕ) → Some key ≡ first_value (found_of own.now) key_id → Some old ≡ first_value (found_of own.now) old_id
-        → Some new ≡ first_value (found_of own.now) new_id → result ≡ swap_spelled key old new }
-{
-    let key = key_in(own)?;
-    let old = value_in(own, OLD)?;
-    let new = value_in(own, NEW)?;
-    Some(Call::Swap { key, old, new })
-}
-
-// What the first word of a `put` that spells no key, or no value, must be.
-fn wrong_put(own: &ArgMatches<'_>) -> &'static str
-    requires { IsSome (first_value (found_of own.now) key_id) }
-{
-    if key_in(own).is_none() {
-        return "`put` takes a KEY of 1 to 64 bytes, as `exhash put --help` tells";
-    }
-    "`put` takes a VALUE of 0 to 128 bytes, as `exhash put --help` tells"
-}
-
-// What the first word of a `swap` that spells no key, or no value, must be.
-fn wrong_swap(own: &ArgMatches<'_>) -> &'static str
-    requires key { IsSome (first_value (found_of own.now) key_id) }
-    requires old { IsSome (first_value (found_of own.now) old_id) }
-{
-    if key_in(own).is_none() {
-        return "`swap` takes a KEY of 1 to 64 bytes, as `exhash put --help` tells";
-    }
-    if value_in(own, OLD).is_none() {
-        return "`swap` takes an OLD of 0 to 128 bytes, as `exhash put --help` tells";
-    }
-    "`swap` takes a NEW of 0 to 128 bytes, as `exhash put --help` tells"
-}
-
-// The value that the word given by this name spells.
-fn value_in(own: &ArgMatches<'_>, name: &str) -> Option<Value>
-    requires { IsSome (first_value (found_of own.now) name.now) }
-    ensures { result ≡ option_and_then value_spelled (first_value (found_of own.now) name.now) }
-{
-    let Some(word) = own.get_str(name) else {
-        unreachable!()
-    };
-    ByteWord::parse(word.as_bytes())?.value()
-}
-
-// The key that the word given for it spells.
-fn key_in(own: &ArgMatches<'_>) -> Option<Key>
-    requires { IsSome (first_value (found_of own.now) key_id) }
-    ensures { result ≡ option_and_then key_spelled (first_value (found_of own.now) key_id) }
-{
-    let Some(word) = own.get_str(KEY) else {
-        unreachable!()
-    };
-    parse_key(word.as_bytes()).ok()
-}
-
 // The pairs of the path, with the settings that were given.
 fn pairs_job<'w>(alloc: Global, own: &ArgMatches<'w>) -> Result<Job<'w>, CliFault>
     requires path { IsSome (first_value (found_of own.now) path_id) }
@@ -362,7 +189,7 @@ fn pairs_job<'w>(alloc: Global, own: &ArgMatches<'w>) -> Result<Job<'w>, CliFaul
 {
     match pairs_in(own) {
         Some(job) => Ok(job),
-        None => Err(CliFault::Wrong(wrong_value(alloc, wrong_setting(own))?)),
+        None => Err(usage_error(alloc, PAIRS, wrong_setting(own))),
     }
 }
 
@@ -432,11 +259,11 @@ fn convert_job<'w>(alloc: Global, own: &ArgMatches<'w>) -> Result<Job<'w>, CliFa
             new: new_path_in(own),
             version,
         }),
-        None => Err(CliFault::Wrong(wrong_value(alloc, "`convert --version` takes 2 or 3")?)),
+        None => Err(usage_error(alloc, CONVERT, "`convert --version` takes 2 or 3")),
     }
 }
 
-// The new path that `convert` or `backup` was given.
+// The new path that `convert` was given.
 fn new_path_in<'w>(own: &ArgMatches<'w>) -> &'w str
     requires { IsSome (first_value (found_of own.now) new_id) }
     ensures { Some result.now ≡ first_value (found_of own.now) new_id }
@@ -457,55 +284,6 @@ fn version_in(own: &ArgMatches<'_>) -> Option<PageFileVersion>
     PageFileVersion::numbered(parse_u32(word.as_bytes())?)
 }
 
-// The new file of the path, with the settings that were given.
-fn create_job<'w>(alloc: Global, own: &ArgMatches<'w>) -> Result<Job<'w>, CliFault>
-    requires path { IsSome (first_value (found_of own.now) path_id) }
-    ensures named { IfOk result (λ job. (path : List ℕ) → Some path ≡ first_value (found_of own.now) path_id → job_asked (Create path (pairs_texts_of (found_of own.now))) ≡ Some (named_of job)) }
-    ensures limits { IfOk result IsWithinLimits }
-    ensures wrong { IfErr result (λ fault. IsWrong fault → (path : List ℕ) → job_asked (Create path (pairs_texts_of (found_of own.now))) ≡ None) }
-{
-    match settings_in(own) {
-        Some(settings) => Ok(Job::Create {
-            path: path_in(own),
-            settings,
-        }),
-        None => Err(CliFault::Wrong(wrong_value(alloc, wrong_new_setting(own))?)),
-    }
-}
-
-// The settings that a new file was given, and the usual ones for the others.
-fn settings_in(own: &ArgMatches<'_>) -> Option<FileSettings<AnyKeyer>>
-    ensures settings { result ≡ creation_of (pairs_texts_of (found_of own.now)) }
-    ensures limits { IfSome result AreInRange }
-{
-    Some(FileSettings {
-        cap: number_in(own, CAP, 16, 1, CAP_LIMIT as u32)? as u8,
-        ward_bits: number_in(own, WARDS, 0, 0, u32::from(WARD_BITS_LIMIT))? as u8,
-        keyer: keyer_in(own)?,
-    })
-}
-
-// What the first setting of `create` that is none must be.
-fn wrong_new_setting(own: &ArgMatches<'_>) -> &'static str {
-    if number_in(own, CAP, 16, 1, CAP_LIMIT as u32).is_none() {
-        return "`create --cap` takes a number from 1 to 16";
-    }
-    if number_in(own, WARDS, 0, 0, u32::from(WARD_BITS_LIMIT)).is_none() {
-        return "`create --wards` takes a number from 0 to 4";
-    }
-    "`create --keyer` takes `sha` or `plain`"
-}
-
-// The keyer that was given, or `sha`, where none was.
-fn keyer_in(own: &ArgMatches<'_>) -> Option<AnyKeyer>
-    ensures { result ≡ keyer_of (first_value (found_of own.now) keyer_name) }
-{
-    let Some(word) = own.get_str(KEYER) else {
-        return Some(AnyKeyer::Sha);
-    };
-    keyer_named(word.as_bytes())
-}
-
 // The manual of the program, or of the command that was given.
 fn manual_job<'w>(alloc: Global, own: &ArgMatches<'w>) -> Result<Job<'w>, CliFault>
     ensures named { IfOk result (λ job. job_asked (Manual (first_value (found_of own.now) command_id)) ≡ Some (named_of job)) }
@@ -517,10 +295,11 @@ fn manual_job<'w>(alloc: Global, own: &ArgMatches<'w>) -> Result<Job<'w>, CliFau
         Some(word) if is_command(word) => Ok(Job::Manual {
             command: Some(word),
         }),
-        Some(_) => Err(CliFault::Wrong(wrong_value(
+        Some(_) => Err(usage_error(
             alloc,
+            MANUAL,
             "`manual` takes a command of `exhash`, as `exhash --help` lists them",
-        )?)),
+        )),
     }
 }
 
@@ -556,7 +335,7 @@ fn storm_job<'w>(alloc: Global, own: &ArgMatches<'w>) -> Result<Job<'w>, CliFaul
 {
     match storm_in(own) {
         Some(config) => Ok(Job::Storm { config }),
-        None => Err(CliFault::Wrong(wrong_value(alloc, wrong_number(own))?)),
+        None => Err(usage_error(alloc, STORM, wrong_number(own))),
     }
 }
 

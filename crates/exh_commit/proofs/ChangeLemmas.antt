@@ -1,5 +1,5 @@
 -- What a changer made of a file, and what a crash leaves of it.
-use Rattle.std.proofs.Common.{◌≡◌, ℕ, Bool, List, Option, IfSome, Result, Ok, Err, OnOk, IfOk, IfErr, IsTrue, refl, sym, ◌∙◌, ap₂, subst, inl, inr}
+use Rattle.std.proofs.Common.{◌≡◌, ℕ, ◌/◌, Bool, List, length, Option, IfSome, Result, Ok, Err, OnOk, IfOk, IfErr, IsTrue, refl, sym, ◌∙◌, ap₂, subst, inl, inr}
 use Rattle.std.proofs.lemmas.Bool.{and_from, cond-true}
 use Rattle.sqlite_disk.specs.declared.Disk.{Ghosts}
 use Rattle.sqlite_disk.specs.Disk.{Only}
@@ -8,10 +8,14 @@ use Rattle.sqlite_wal.specs.Reads.{AreClean}
 use Rattle.sqlite_wal.specs.Recovery.{Image}
 use Rattle.exh_edits.specs.declared.block_edit.BlockEdit.{BlockEdit}
 use Rattle.exh_edits.specs.BlockEdits.{with_edits}
+use Rattle.exh_direct.specs.declared.direct_fault.DirectFault.{DirectFault}
+use Rattle.exh_commit.specs.declared.commit_fault.CommitFault.{CommitFault}
+use Rattle.exh_commit.specs.declared.commit_fault.CommitFault.TheVariants.{Place, NotSaved, MaybeSaved}
 use Rattle.exh_commit.specs.declared.change_fault.ChangeFault.{ChangeFault}
 use Rattle.exh_commit.specs.declared.change_fault.ChangeFault.TheVariants.{Open, Refused, Commit, LeftInLog}
 use Rattle.exh_commit.specs.declared.paged_file.PagedFile.{PagedFile}
-use Rattle.exh_commit.specs.Change.{IsChanged, IsSaved, IsUnchanged}
+use Rattle.exh_commit.specs.Change.{IsCause, IsChanged, IsSaved, IsUnchanged}
+use Rattle.exh_commit.specs.CommitFault as commits
 use Rattle.exh_commit.specs.FilePages.{Leaves, LeavesAlone, LeavesAsFound, StandsFor, pages_of}
 use Rattle.exh_commit.specs.PagedFile.{IsReady, bytes_in, known_in, state_in}
 
@@ -54,6 +58,18 @@ not_both (LeftInLog error) unchanged saved = unchanged
 pub if_err_more : {T E : Type 0} (result : Result T E) (P Q : E → Type 0) → ((x : E) → P x → Q x) → IfErr result P → IfErr result Q
 if_err_more (Ok x) P Q more holds = tt
 if_err_more (Err error) P Q more holds = more error holds
+
+-- edits that a changer allows stray where the commit of them says
+pub commit_cause : {A : Type 0} (Allows : List ℕ → A → List BlockEdit → Type 0) (Refuses : List ℕ → DirectFault → Type 0) (bytes : List ℕ) (answer : A) (edits passed : List BlockEdit) (count : ℕ) (fault : CommitFault) → Allows bytes answer edits → passed ≡ edits
+    → count ≡ length bytes / 4096 → commits.IsCause count passed fault → IsCause Allows Refuses bytes (Commit fault)
+commit_cause Allows Refuses bytes answer edits passed count (Place place) allowed same counted astray = record {
+  answer = answer;
+  edits = edits;
+  allowed = allowed;
+  astray = subst (λ (n : ℕ). commits.IsFirstAstray n edits place) counted (subst (λ (all : List BlockEdit). commits.IsFirstAstray count all place) same astray);
+}
+commit_cause Allows Refuses bytes answer edits passed count (NotSaved error) allowed same counted astray = tt
+commit_cause Allows Refuses bytes answer edits passed count (MaybeSaved error) allowed same counted astray = tt
 
 module _ {D : Type 0} {g : Ghosts D} where
   pub known_gives : (truthful : Bool) (it : PagedFile D g) (P : List ℕ → Type 0) → IsTrue truthful → IsReady it → IfSome (known_in truthful it) P → P (bytes_in it)

@@ -1,10 +1,13 @@
 -- What a changer makes of a file, and what a fault of a change tells of it.
-use Rattle.std.specs.Prelude.{◌≡◌, ◌⊎◌, ⊤, Bool, ℕ, List, IsTrue}
+use Rattle.std.specs.Prelude.{◌≡◌, ◌⊎◌, ◌/◌, ⊤, Bool, ℕ, List, length, IsTrue}
+use Rattle.exh_codec.specs.declared.block.TheConstants.{BLOCK_LEN}
+use Rattle.exh_direct.specs.declared.direct_fault.DirectFault.{DirectFault}
 use Rattle.exh_edits.specs.declared.block_edit.BlockEdit.{BlockEdit}
 use Rattle.exh_edits.specs.BlockEdits.{with_edits}
 use Rattle.exh_commit.specs.declared.change_fault.ChangeFault.{ChangeFault}
 use Rattle.exh_commit.specs.declared.change_fault.ChangeFault.TheVariants.{Open, Refused, Commit, LeftInLog}
-use Rattle.exh_commit.specs.CommitFault.{IsUnsaved}
+use Rattle.exh_commit.specs.declared.commit_fault.CommitFault.TheVariants.{Place, NotSaved, MaybeSaved}
+use Rattle.exh_commit.specs.CommitFault.{IsFirstAstray, IsUnsaved}
 
 -- nothing was committed, and a crash leaves the bytes from before
 abbrev pub IsUnchanged : ChangeFault → Type 0
@@ -33,3 +36,22 @@ module _ {A : Type 0} (truthful : Bool) (Allows : List ℕ → A → List BlockE
 
   abbrev pub IsOldOrChanged : List ℕ → List ℕ → Type 0
   IsOldOrChanged old new = (new ≡ old) ⊎ MayChange old new
+
+-- ---- why a change fails
+
+module _ {A : Type 0} (Allows : List ℕ → A → List BlockEdit → Type 0) (Refuses : List ℕ → DirectFault → Type 0) where
+  -- of edits that the changer allows of the bytes this is the place of the first that is astray
+  pub record MayStray (bytes : List ℕ) (place : ℕ) : Type 0 where
+    pub answer : A
+    pub edits : List BlockEdit
+    pub allowed : Allows bytes answer edits
+    pub astray : IsFirstAstray (length bytes / BLOCK_LEN) edits place
+
+  -- of these bytes the changer refuses so, or allows edits that stray so; of other faults the disk, the log or memory is the cause
+  abbrev pub IsCause : List ℕ → ChangeFault → Type 0
+  IsCause bytes (Open error) = ⊤
+  IsCause bytes (Refused fault) = Refuses bytes fault
+  IsCause bytes (Commit (Place place)) = MayStray bytes place
+  IsCause bytes (Commit (NotSaved error)) = ⊤
+  IsCause bytes (Commit (MaybeSaved error)) = ⊤
+  IsCause bytes (LeftInLog error) = ⊤

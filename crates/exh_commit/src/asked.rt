@@ -1,5 +1,5 @@
 //! A file while a changer reads it.
-ghost use Rattle.std.specs.Prelude.{◌≡◌, None, IsTrue, IfOk, IfSome};
+ghost use Rattle.std.specs.Prelude.{◌≡◌, None, IsTrue, IfErr, IfOk, IfSome};
 ghost use Rattle.exh_commit.specs.FilePages.{Leaves};
 ghost use Rattle.exh_commit.specs.PagedFile.{IsHonest, bytes_in, files_in, known_in, state_in};
 
@@ -81,6 +81,7 @@ pub(crate) fn ask<D: Truthful + Drop, C: Changer, K: Before>(
     requires clean { K.is_clean ≡ (state_in file).is_clean }
     requires bytes { K.bytes ≡ bytes_in file }
     ensures made { IfOk result.0 (λ made. IfSome (known_in D.Truthful.is_truthful file) (λ bytes. C.allows changer.now bytes made.0 made.1.items)) }
+    ensures refused { IfErr result.0 (λ fault. IfSome (known_in D.Truthful.is_truthful file) (λ bytes. C.refuses changer.now bytes fault)) }
     ensures ready { (state_in result.1).is_ready ≡ (state_in file).is_ready }
     ensures honest { IsHonest result.1 → IsHonest file }
     ensures bytes { bytes_in result.1 ≡ bytes_in file }

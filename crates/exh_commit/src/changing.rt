@@ -2,7 +2,7 @@
 ghost use Rattle.std.specs.Prelude.{◌≡◌, ℕ, List, IsTrue, IfOk, IfErr, OnOk};
 ghost use Rattle.sqlite_disk.specs.Disk.{Only};
 ghost use Rattle.sqlite_wal.specs.Files.{seen_image};
-ghost use Rattle.exh_commit.specs.Change.{IsChanged, IsOldOrChanged, IsSaved, IsUnchanged, MayChange};
+ghost use Rattle.exh_commit.specs.Change.{IsCause, IsChanged, IsOldOrChanged, IsSaved, IsUnchanged, MayChange};
 ghost use Rattle.exh_commit.specs.FilePages.{Leaves, LeavesAlone, StandsFor};
 ghost use Rattle.exh_commit.specs.PagedFile.{IsHonest, IsReady, bytes_in, files_in};
 
@@ -28,6 +28,7 @@ impl<D: Truthful + Drop> PagedFile<D> {
         ensures ok { IfOk result.0 (λ answer. IsHonest result.1 → IsChanged D.Truthful.is_truthful (C.allows changer.now) answer (bytes_in self) (bytes_in result.1)) }
         ensures ready { OnOk result.0 (IsReady result.1) }
         ensures honest { IsHonest result.1 → IsHonest self }
+        ensures cause { IfErr result.0 (λ fault. IsTrue D.Truthful.is_truthful → IsCause (C.allows changer.now) (C.refuses changer.now) (bytes_in self) fault) }
 
         // What a crash leaves: the bytes after the change, in the file alone; those from before; or, however far it gets, one of both.
         ensures alone { IfOk result.0 (λ answer. LeavesAlone D.Disk (files_in result.1) (IsChanged D.Truthful.is_truthful (C.allows changer.now) answer (bytes_in self))) }
@@ -81,6 +82,10 @@ pub fn change_file<D: Truthful + Drop, C: Changer>(
         → Leaves D.Disk (result.1.log, result.1.db) (λ bytes. bytes ≡ old)) }
     ensures saved { IfErr result.0 (λ fault. IsSaved fault → (old : List ℕ) → StandsFor (seen_image D.Disk files.log files.db) old
         → Leaves D.Disk (result.1.log, result.1.db) (MayChange D.Truthful.is_truthful (C.allows changer.now) old)) }
+
+    // Where no answer of the disk can be wrong, the changer refuses just what it may, and its edits stray where the fault says.
+    ensures cause { IfErr result.0 (λ fault. IsTrue D.Truthful.is_truthful → (old : List ℕ) → StandsFor (seen_image D.Disk files.log files.db) old
+        → IsCause (C.allows changer.now) (C.refuses changer.now) old fault) }
 {
     let file = match open(alloc, files, options) {
         Ok(file) => file,

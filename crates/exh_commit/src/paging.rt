@@ -1,9 +1,10 @@
 //! What is done with a file that is open: its blocks are read, edits are committed and moved into the file, and it's closed.
-ghost use Rattle.std.specs.Prelude.{◌≡◌, [], IsTrue, IfErr, OnOk, OnErr};
+ghost use Rattle.std.specs.Prelude.{◌≡◌, ℕ, [], IsTrue, IfErr, OnOk, OnErr};
 ghost use Rattle.sqlite_wal.specs.State.{Keeps, StaysOrFails};
 ghost use Rattle.exh_format.specs.FileTests.{IsWhole, block_at};
 ghost use Rattle.exh_edits.specs.BlockEdits.{with_edits};
-ghost use Rattle.exh_commit.specs.CommitFault.{IsUnsaved};
+ghost use Rattle.exh_edits.specs.EditsInTurn.{AreInTurn};
+ghost use Rattle.exh_commit.specs.CommitFault.{IsCause, IsUnsaved};
 ghost use Rattle.exh_commit.specs.FilePages.{Leaves, LeavesAlone};
 ghost use Rattle.exh_commit.specs.PagedFile.{IsHonest, IsOldOrEdited, IsReady, bytes_in, files_in, state_in};
 
@@ -58,6 +59,8 @@ impl<D: Disk> PagedFile<D> {
         ensures ok { OnOk result (IsHonest self.new → bytes_in self.new ≡ with_edits edits.now (bytes_in self.old)) }
         ensures ready { OnOk result (IsReady self.new) }
         ensures err { OnErr result (IsReady self.new → IsHonest self.new → bytes_in self.new ≡ bytes_in self.old) }
+        ensures turn { OnOk result ((count : ℕ) × AreInTurn self.old.pager.count edits.now count) }
+        ensures cause { IfErr result (IsCause self.old.pager.count edits.now) }
         ensures none { edits.now ≡ [] → files_in self.new ≡ files_in self.old }
 
         // What a crash leaves: the new bytes, the old ones, or, however far it gets, one of both.

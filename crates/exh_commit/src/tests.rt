@@ -185,6 +185,8 @@ impl Changer for Nines {
 
     ghost allows = { λ _ _ _ _. ⊤ };
 
+    ghost refuses = { λ _ _ _. ⊤ };
+
     fn change<B: Blocks>(
         &self,
         alloc: Global,

@@ -1,10 +1,11 @@
 //! Edits of blocks, as writes of a pager's pages.
-ghost use Rattle.std.specs.Prelude.{◌≡◌, IsTrue, IfErr, OnOk, OnErr};
+ghost use Rattle.std.specs.Prelude.{◌≡◌, ◌+◌, ◌≤◌, ℕ, max, IsTrue, IfErr, OnOk, OnErr};
 ghost use Rattle.exh_codec.specs.declared.block.TheConstants.{BLOCK_LEN};
 ghost use Rattle.sqlite_wal.specs.State.{Keeps, StaysOrFails};
-ghost use Rattle.sqlite_pager.specs.Pager.{state, visible, files, HasSpilled, IsClean};
+ghost use Rattle.sqlite_pager.specs.Pager.{state, visible, files, page_count, HasSpilled, IsClean};
 ghost use Rattle.exh_edits.specs.BlockEdits.{with_block, with_edits};
-ghost use Rattle.exh_commit.specs.CommitFault.{IsUnsaved};
+ghost use Rattle.exh_edits.specs.EditsInTurn.{AreInTurn};
+ghost use Rattle.exh_commit.specs.CommitFault.{IsBehind, IsCause, IsUnsaved};
 ghost use Rattle.exh_commit.specs.FilePages.{Leaves};
 ghost use Rattle.exh_commit.specs.PagedFile.{IsOldOrEdited, bytes_seen};
 
@@ -17,7 +18,10 @@ use sqlite_pager::Pager;
 fn write_block<D: Disk>(pager: &mut Pager<D>, edit: &BlockEdit) -> Result<(), CommitFault>
     requires { (state pager.old).page_size ≡ BLOCK_LEN }
     ensures ok { OnOk result (IsTrue (state pager.new).is_open → bytes_seen pager.new ≡ with_block edit.now.place edit.now.block (bytes_seen pager.old)) }
+    ensures within { OnOk result (edit.now.place ≤ page_count pager.old) }
+    ensures count { OnOk result (page_count pager.new ≡ max (page_count pager.old) (edit.now.place + 1)) }
     ensures err { IfErr result IsUnsaved }
+    ensures cause { IfErr result (IsBehind (page_count pager.old) edit.now) }
     ensures keeps { Keeps (state pager.old) (state pager.new) }
 {
     let count = pager.page_count();
@@ -35,7 +39,9 @@ fn write_block<D: Disk>(pager: &mut Pager<D>, edit: &BlockEdit) -> Result<(), Co
 fn write_all<D: Disk>(pager: &mut Pager<D>, edits: &[BlockEdit]) -> Result<(), CommitFault>
     requires { (state pager.old).page_size ≡ BLOCK_LEN }
     ensures ok { OnOk result (IsTrue (state pager.new).is_open → bytes_seen pager.new ≡ with_edits edits.now (bytes_seen pager.old)) }
+    ensures turn { OnOk result ((count : ℕ) × AreInTurn (page_count pager.old) edits.now count) }
     ensures err { IfErr result IsUnsaved }
+    ensures cause { IfErr result (IsCause (page_count pager.old) edits.now) }
     ensures keeps { Keeps (state pager.old) (state pager.new) }
 {
     for edit in edits {
@@ -54,6 +60,8 @@ pub(crate) fn commit_edits<D: Disk>(
     requires seen { IsTrue (state pager.old).is_open → visible pager.old ≡ (state pager.old).committed }
     ensures ok { OnOk result (IsTrue (state pager.new).is_open → bytes_seen pager.new ≡ with_edits edits.now (bytes_seen pager.old)) }
     ensures err { OnErr result (IsTrue (state pager.new).is_open → bytes_seen pager.new ≡ bytes_seen pager.old) }
+    ensures turn { OnOk result ((count : ℕ) × AreInTurn (page_count pager.old) edits.now count) }
+    ensures cause { IfErr result (IsCause (page_count pager.old) edits.now) }
     ensures ready { OnOk result (IsTrue (state pager.new).is_ready) }
     ensures seen { IsTrue (state pager.new).is_open → visible pager.new ≡ (state pager.new).committed }
     ensures logged { IsTrue (state pager.new).is_ready → ¬ HasSpilled pager.new }

@@ -13,8 +13,6 @@ pub use laws::{
 
 mod block_edit;
 mod differing;
-#[cfg(test)]
-mod differing_examples;
 mod differing_fault;
 mod edits;
 mod header_block;

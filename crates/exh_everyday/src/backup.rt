@@ -1,29 +1,44 @@
-//! Copies of page files.
+//! The run of a backup.
 ghost use Rattle.std.specs.Prelude.{◌≡◌};
 ghost use Rattle.exh_everyday.specs.Endings.{backup_status};
 
 use crate::refusal::tell_refused;
+use crate::run::Run;
 use exh_answer::Status;
-use exhash::{BackupFault, StoreError, backup};
+use exh_backup::{backup_within, unread_at};
+use exhash::{BackupFault, StoreError};
 
-/// Copies the page file of a path to a new path at which nothing is. Standard error says why it isn't copied.
-pub fn back_up(rt: &HostRuntime, path: &str, new: &str) -> Status {
-    let copied = backup(rt, path, new);
-    match &copied {
-        Ok(()) => {}
-        Err(BackupFault::File(fault)) => tell_refused(rt, path, fault),
-        Err(BackupFault::Copy(fault)) => tell_refused(rt, new, fault),
+/// Copies one state of the page file to a new path at which nothing is.
+pub(crate) fn back_up(run: &Run<'_>, new: &str) -> Status {
+    match backup_within(run.rt, run.path, new, run.seconds) {
+        Ok(()) => Status::Done,
+        Err(fault) => {
+            let fault = unread(run, fault);
+            match &fault {
+                BackupFault::File(cause) => tell_refused(run.rt, run.path, cause),
+                BackupFault::Copy(cause) => tell_refused(run.rt, new, cause),
+            }
+            backup_status(&fault)
+        }
     }
-    backup_status(&copied)
 }
 
-// The status after a file was copied, or wasn't.
-fn backup_status(copied: &Result<(), BackupFault>) -> Status
-    ensures { result ≡ backup_status copied.now }
+// The fault as it is said: a file that doesn't begin as a page file is none, whatever its length.
+fn unread(run: &Run<'_>, fault: BackupFault) -> BackupFault {
+    match fault {
+        BackupFault::File(cause) => BackupFault::File(unread_at(run.rt, run.path, cause)),
+        fault => fault,
+    }
+}
+
+// The status where there is no copy.
+fn backup_status(fault: &BackupFault) -> Status
+    ensures { result ≡ backup_status fault.now }
 {
-    match copied {
-        Ok(()) => Status::Done,
-        Err(BackupFault::Copy(StoreError::Exists)) => Status::Missing,
-        Err(_) => Status::Refused,
+    match fault {
+        BackupFault::File(StoreError::Busy | StoreError::Changed) => Status::Busy,
+        BackupFault::Copy(StoreError::Busy) => Status::Busy,
+        BackupFault::Copy(StoreError::Exists) => Status::Missing,
+        _ => Status::Refused,
     }
 }

@@ -1,42 +1,68 @@
-//! New page files.
+//! The run of a create.
 ghost use Rattle.std.specs.Prelude.{◌≡◌};
 ghost use Rattle.exh_everyday.specs.Endings.{made_status};
 
-use crate::refusal::tell_refused;
+use crate::refusal::{is_nothing_at, tell_refused};
+use crate::run::Run;
 use exh_answer::Status;
-use exh_system::{WAIT, pause_after};
+use exh_disk::folder_of;
+use exh_notes::Escaped;
+use exh_system::pause_after;
 use exhash::{Settings, StoreError, make};
+use std::fs;
 use std::thread::sleep;
 use std::time::{Duration, Instant};
 
-// As often as a pause of two milliseconds fits into the wait.
-const TURNS: u64 = 500 * WAIT;
+// How many of the least pauses, of two milliseconds, fit into a second.
+const PAUSES: u64 = 500;
 
-/// Makes a page file of version 3 without pairs at a path at which nothing is, or an empty file. Standard error says why it
-/// isn't made.
-pub fn create(rt: &HostRuntime, path: &str, settings: Settings) -> Status {
-    let made = make_soon(rt, path, settings);
+/// Makes a page file of version 3 without pairs at a path at which nothing is, or an empty file.
+pub(crate) fn create(run: &Run<'_>, settings: Settings) -> Status {
+    let was_free = is_nothing_at(run.rt, run.path);
+    let made = make_soon(run, settings);
     if let Err(fault) = &made {
-        tell_refused(rt, path, fault);
+        tell_refused(run.rt, run.path, fault);
+        if was_free && is_empty_at(run.rt, run.path) {
+            tell_left(run.rt, run.path);
+        }
     }
     made_status(&made)
 }
 
-// Makes the file, and waits some seconds for another run that is at work there.
-fn make_soon(rt: &HostRuntime, path: &str, settings: Settings) -> Result<(), StoreError> {
-    let start = Instant::now(rt)?;
-    for _ in 0..TURNS {
-        match make(rt, path, settings) {
+// Whether an empty file is at a path.
+fn is_empty_at(rt: &HostRuntime, path: &str) -> bool {
+    match fs::symlink_metadata(rt, path) {
+        Ok(about) => about.is_file() && about.len() == 0,
+        Err(_) => false,
+    }
+}
+
+// Says that an empty file is left at a path, which may be another process's by now, and so isn't removed.
+fn tell_left(rt: &impl Eprint, path: &str) {
+    let path = Escaped(path);
+    let _ = eprintln!(rt;
+        "exhash: {path}: an empty file is left there: remove it, or let `exhash create` take it"
+    );
+}
+
+// Makes the file, and waits for another process that is at work there. Its folder is asked for before, so that nothing is left
+// in one whose path isn't UTF-8.
+fn make_soon(run: &Run<'_>, settings: Settings) -> Result<(), StoreError> {
+    let _folder = fs::canonicalize(run.rt, folder_of(run.path))?;
+    let start = Instant::now(run.rt)?;
+    let wait = Duration::from_secs(run.seconds);
+    for _ in 0..run.seconds.saturating_mul(PAUSES) {
+        match make(run.rt, run.path, settings) {
             Err(StoreError::Busy) => {}
             made => return made,
         }
-        let passed = start.elapsed(rt)?;
-        if passed >= Duration::from_secs(WAIT) {
+        let passed = start.elapsed(run.rt)?;
+        if passed >= wait {
             break;
         }
-        sleep(rt, pause_after(passed));
+        sleep(run.rt, pause_after(passed));
     }
-    Err(StoreError::Busy)
+    make(run.rt, run.path, settings)
 }
 
 // The status after a file was made, or wasn't.
@@ -46,6 +72,7 @@ fn made_status(made: &Result<(), StoreError>) -> Status
     match made {
         Ok(()) => Status::Done,
         Err(StoreError::Exists) => Status::Missing,
+        Err(StoreError::Busy) => Status::Busy,
         Err(_) => Status::Refused,
     }
 }

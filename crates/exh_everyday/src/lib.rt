@@ -1,10 +1,21 @@
-//! The everyday commands over page files: each is a call of the library `exhash`, with what standard error says where it is
-//! refused, and the status with which the program ends.
+//! The everyday commands over page files: what each prints of what the library `exhash` answers, what standard error says
+//! where it is refused, and the status with which the program ends.
 #![tactic(auto)]
 
-pub use backup::back_up;
-pub use creation::create;
+pub use performing::perform;
 
+mod answer;
 mod backup;
+mod change;
 mod creation;
+mod deletion;
+mod found;
+mod get;
+mod input;
+mod key_values;
+mod performing;
+mod printing;
 mod refusal;
+mod run;
+mod shown;
+mod wrong_input;

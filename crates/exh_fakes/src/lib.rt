@@ -5,11 +5,15 @@
 #[cfg(test)]
 mod couriers;
 #[cfg(test)]
+mod differing;
+#[cfg(test)]
 mod inputs;
 #[cfg(test)]
 mod meters;
 #[cfg(test)]
 mod outputs;
+#[cfg(test)]
+mod page_files;
 #[cfg(test)]
 mod stores;
 #[cfg(test)]

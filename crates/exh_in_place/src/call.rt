@@ -1,10 +1,10 @@
-//! Calls that a page file of the system answers in place.
+//! Operations that a page file of the system answers in place.
 
 use crate::Refused;
 use crate::locked::{Locked, begin, locked_at};
-use crate::system_files::{close, opened};
+use crate::system_files::{close, let_go, opened};
 use exh_calls::{Call, Reply};
-use exh_paged::{PutIf, call_files, calls_files, put_files};
+use exh_paged::{Calls, Expected, Operation, PutIf, answer_files};
 use sqlite_std_file::Wary;
 
 /// Answers a call by the page file of a path in place, where that is of version 3; `None` where it is of another version, or
@@ -17,10 +17,7 @@ pub fn change_at(
     call: &Call,
     seconds: u64,
 ) -> Result<Option<Reply>, Refused> {
-    match locked_at(rt, path, seconds)? {
-        Some(locked) => Ok(Some(change_locked(rt, &locked, call)?)),
-        None => Ok(None),
-    }
+    answer_at(rt, path, call, seconds)
 }
 
 /// Answers calls by the page file of a path in place as one change: a crash leaves what all of them make of it, or what was
@@ -34,8 +31,8 @@ pub fn change_all_at(
     calls: &[Call],
     seconds: u64,
 ) -> Result<Option<Vec<Reply>>, Refused> {
-    match locked_at(rt, path, seconds)? {
-        Some(locked) => Ok(Some(change_all_locked(rt, &locked, calls)?)),
+    match answer_at(rt, path, &Calls { calls }, seconds)? {
+        Some(answered) => Ok(Some(answered.replies)),
         None => Ok(None),
     }
 }
@@ -49,42 +46,42 @@ pub fn put_at(
     put: &PutIf,
     seconds: u64,
 ) -> Result<Option<Reply>, Refused> {
+    answer_at(rt, path, put, seconds)
+}
+
+// Answers an operation by the page file of a path, where that is of version 3.
+fn answer_at<O: Operation>(
+    rt: &HostRuntime,
+    path: &str,
+    operation: &O,
+    seconds: u64,
+) -> Result<Option<O::Answer>, Refused> {
     match locked_at(rt, path, seconds)? {
-        Some(locked) => Ok(Some(put_locked(rt, &locked, put)?)),
+        Some(locked) => Ok(Some(answer_locked(rt, &locked, operation)?)),
         None => Ok(None),
     }
 }
 
-// Answers a call by a page file that is locked.
-fn change_locked(rt: &HostRuntime, locked: &Locked, call: &Call) -> Result<Reply, Refused> {
-    let whole = locked.whole.as_str();
-    let it = begin(rt, locked)?;
-    let files = opened(rt, whole, Wary)?;
-    let (changed, files) = call_files(rt.alloc(), files, it.options, it.own, call, it.stamp);
-    close(rt, whole, changed.is_ok(), files);
-    Ok(changed?)
-}
-
-// Makes a put in a page file that is locked, or not.
-fn put_locked(rt: &HostRuntime, locked: &Locked, put: &PutIf) -> Result<Reply, Refused> {
-    let whole = locked.whole.as_str();
-    let it = begin(rt, locked)?;
-    let files = opened(rt, whole, Wary)?;
-    let (changed, files) = put_files(rt.alloc(), files, it.options, it.own, put, it.stamp);
-    close(rt, whole, changed.is_ok(), files);
-    Ok(changed?)
-}
-
-// Answers calls by a page file that is locked, as one change.
-fn change_all_locked(
+// Answers an operation by a page file that is locked.
+fn answer_locked<O: Operation>(
     rt: &HostRuntime,
     locked: &Locked,
-    calls: &[Call],
-) -> Result<Vec<Reply>, Refused> {
+    operation: &O,
+) -> Result<O::Answer, Refused> {
     let whole = locked.whole.as_str();
     let it = begin(rt, locked)?;
     let files = opened(rt, whole, Wary)?;
-    let (changed, files) = calls_files(rt.alloc(), files, it.options, it.own, calls, it.stamp);
-    close(rt, whole, changed.is_ok(), files);
-    Ok(changed?.replies)
+    if !locked.is_there(rt) {
+        return Err(let_go(rt, whole, files));
+    }
+    let (answer, files) = answer_files(
+        rt.alloc(),
+        files,
+        it.options,
+        Expected::Own(it.own),
+        operation,
+        it.stamp,
+    );
+    close(rt, whole, answer.is_ok(), files);
+    Ok(answer?)
 }

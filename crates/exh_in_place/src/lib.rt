@@ -10,6 +10,8 @@ pub use saving::{answer_in_place, save_in_place};
 pub use stillness::hold_still;
 
 mod call;
+#[cfg(test)]
+mod examples;
 mod locked;
 mod one_state;
 mod open_file;

@@ -3,7 +3,7 @@ use crate::locked::{Locked, begin, locked_at};
 use crate::system_files::{SystemBlocks, close, opened};
 use exh_calls::{Call, Reply};
 use exh_commit::ChangeFault;
-use exh_paged::{CallFile, FilesFault};
+use exh_paged::{CallFile, Calls, Expected, FilesFault};
 use exh_system::draw_stamp;
 use sqlite_pager::Error;
 use sqlite_std_file::Wary;
@@ -28,7 +28,7 @@ impl OpenFile {
         };
         let it = begin(rt, &locked)?;
         let files = opened(rt, locked.whole.as_str(), Wary)?;
-        match CallFile::open(rt.alloc(), files, it.options, it.own) {
+        match CallFile::open(rt.alloc(), files, it.options, Expected::Own(it.own)) {
             Ok(file) => Ok(Some(OpenFile {
                 locked,
                 file,
@@ -56,7 +56,7 @@ impl OpenFile {
             Ok(stamp) => stamp,
             Err(error) => return (Err(Refused::from(error)), self),
         };
-        let (answer, file) = self.file.calls(rt.alloc(), calls, stamp);
+        let (answer, file) = self.file.answer(rt.alloc(), &Calls { calls }, stamp);
         let is_settled = is_settled_by(self.is_settled, &answer);
         let after = OpenFile {
             locked: self.locked,

@@ -2,7 +2,7 @@
 
 use crate::Refused;
 use crate::system_files::{close, opened, options, own_stamp};
-use exh_paged::recover_files;
+use exh_paged::{Expected, recover_files};
 use exh_system::{PageLog, front_of, is_at, lock_soon, open_regular, see_fit};
 use sqlite_std_file::Wary;
 use std::fs;
@@ -19,9 +19,9 @@ pub fn recover_at(rt: &HostRuntime, path: &str, file: &File) -> Result<(), Refus
         return Ok(());
     }
     see_fit(rt, file, whole.as_str())?;
-    let own = own_stamp(file)?;
+    let expected = Expected::Own(own_stamp(file)?);
     let files = opened(rt, whole.as_str(), Wary)?;
-    let (recovered, files) = recover_files(rt.alloc(), files, options(rt)?, own);
+    let (recovered, files) = recover_files(rt.alloc(), files, options(rt)?, expected);
     close(rt, whole.as_str(), recovered.is_ok(), files);
     Ok(recovered?)
 }

@@ -55,6 +55,7 @@ impl From<FilesFault> for Refused {
     fn from(fault: FilesFault) -> Refused {
         match fault {
             FilesFault::OthersLog => Refused::Unfit(InPlaceFault::OthersLog),
+            FilesFault::NotAsOpened => Refused::Unfit(InPlaceFault::NotAsOpened),
             FilesFault::Header(fault) => Refused::Damaged(DirectFault::File(fault)),
             FilesFault::Read(error) => Refused::Change(ChangeFault::Open(error)),
             // The file is a list of blocks, so what doesn't fit it is the log.
@@ -73,7 +74,6 @@ impl From<FilesFault> for Refused {
 impl From<SaveFilesFault> for Refused {
     fn from(fault: SaveFilesFault) -> Refused {
         match fault {
-            SaveFilesFault::NotAsOpened => Refused::Unfit(InPlaceFault::NotAsOpened),
             SaveFilesFault::Draft(SaveFault::Memory) => Refused::Unfit(InPlaceFault::Memory),
             SaveFilesFault::Draft(fault) => Refused::Unwritten(fault),
             SaveFilesFault::Content(DifferingFault::Memory) => Refused::Unfit(InPlaceFault::Memory),

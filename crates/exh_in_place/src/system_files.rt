@@ -5,14 +5,14 @@ ghost use Rattle.sqlite_std_file.specs.File.{file_is_usable, IsFresh};
 use crate::Refused;
 use exh_cells::StampedHeader;
 use exh_codec::BLOCK_LEN;
-use exh_system::{InPlaceFault, PageLog};
+use exh_system::{InPlaceFault, PageLog, is_at, open_regular};
 use sqlite_disk::Files;
 use sqlite_pager::Options;
 use sqlite_std_file::{FileFrom, OpenError, Start, Wary};
 use std::fs::File;
 use std::hash::{BuildHasher, RandomState};
-use std::io;
 use std::os::unix::fs::FileExt;
+use std::{fs, io};
 
 // How many blocks are kept in memory.
 const KEPT_BLOCKS: usize = 64;
@@ -47,6 +47,26 @@ pub(crate) fn opened<S: Start>(
         Err(OpenError::Busy) => Err(Refused::Unfit(InPlaceFault::Busy)),
         Err(OpenError::HotJournal) => Err(Refused::Unfit(InPlaceFault::Journal)),
     }
+}
+
+/// Lets the files go that were opened of a path to which the locked file no longer was, and removes the empty ones that the
+/// opening made in its place; the refusal.
+pub(crate) fn let_go(rt: &HostRuntime, whole: &str, files: Files<SystemBlocks>) -> Refused {
+    close(rt, whole, true, files);
+    match remove_empty(rt, whole) {
+        Ok(()) => Refused::Unfit(InPlaceFault::NotAsOpened),
+        Err(error) => Refused::from(error),
+    }
+}
+
+// Removes the empty file of a path, under its lock, so that nobody who is making a page file there loses it.
+fn remove_empty(rt: &HostRuntime, whole: &str) -> io::Result<()> {
+    let file = open_regular(rt, whole)?;
+    let is_free = file.try_lock().is_ok();
+    if is_free && file.metadata()?.len() == 0 && is_at(rt, &file, whole)? {
+        fs::remove_file(rt, whole)?;
+    }
+    Ok(())
 }
 
 /// How they are opened: with few blocks in memory.

@@ -1,5 +1,4 @@
 pub mod Opening
 pub mod HeldForm
 pub mod JobPath
-pub mod ChangeRun
 pub mod LoadRun

@@ -14,12 +14,6 @@ pub enum Ending<'w> {
         path: JobPath<'w>,
         wards: FileWards,
     },
-    /// After these wards are saved at a job's path, and this line is printed.
-    SaveAndTell {
-        path: JobPath<'w>,
-        wards: FileWards,
-        line: Vec<u8>,
-    },
     /// After these wards are saved as a new file of this version at a job's path, where nothing is.
     SaveNew {
         path: JobPath<'w>,

@@ -25,15 +25,11 @@ pub fn path_of<'w>(job: &Job<'w>) -> Option<JobPath<'w>>
     match job {
         Job::Serve { save, .. } => at(*save),
         Job::Load { path, .. } => at(Some(*path)),
-        Job::Change { path, .. } => at(Some(*path)),
         Job::Convert { new, .. } => at(Some(*new)),
         Job::Check { .. }
         | Job::Dump { .. }
         | Job::Pairs { .. }
         | Job::Storm { .. }
-        | Job::Get { .. }
-        | Job::Create { .. }
-        | Job::Backup { .. }
         | Job::Version
         | Job::Manual { .. } => None,
     }

@@ -5,21 +5,20 @@ ghost use Rattle.exh_job.specs.Opening.{IsNamed, IsOpenedAt};
 ghost use Rattle.exh_answer.specs.declared.status.Status.TheVariants.{Refused};
 
 use crate::held_file::HeldFile;
-use crate::saving::{refuse_for_memory, refuse_save};
+use crate::saving::refuse_for_memory;
+use crate::sentence::{tell_fault, tell_unopened};
 use crate::standard::refuse_unread;
 use crate::watch::reading_meter;
-use exh_answer::{FileWards, Status, open_file};
+use exh_answer::{FileWards, Status, Unopened, open_file};
 use exh_in_place::hold_still;
+use exh_map::StoreError;
 use exh_notes::ReasonReader;
-use exh_path::{DiskFault, Lock, OpenedFile, SystemDisk, open_above};
+use exh_path::{OpenedFile, SystemDisk, open_above};
 use exh_stream::{ClearingWriter, MeteredReader, Output};
-use exh_system::{Reason, WAIT, tell_reason, with_reason};
+use exh_system::{Reason, WAIT, with_reason};
 use std::cell::Cell;
 use std::fs::File;
 use std::io;
-
-// How often a file is opened anew that another run replaced before it was locked.
-const TRIES: u32 = 100;
 
 /// The wards of a page file, and the file, which is held open.
 type Opening<'w> = (FileWards, HeldFile<'w>);
@@ -50,36 +49,6 @@ pub fn open_at<'w>(rt: &HostRuntime, path: &'w str) -> Result<Opening<'w>, Statu
     let reason = Cell::new(None);
     let seen = seen_at(rt, path, &reason)?;
     read_opened(rt, path, seen, &reason)
-}
-
-/// The same of a file that is locked before it is read, so that no other run saves over it until this one is done. Where
-/// another run has the lock standard error says so.
-pub fn open_alone<'w>(rt: &HostRuntime, path: &'w str) -> Result<Opening<'w>, Status>
-    ensures ok { IfOk result (λ opening. IsNamed path.now opening.1.seen) }
-    ensures err { IfErr result (λ status. status ≡ Refused) }
-{
-    for _ in 0..TRIES {
-        let reason = Cell::new(None);
-        let seen = seen_at(rt, path, &reason)?;
-        if is_alone(rt, path, &seen)? {
-            return read_opened(rt, path, seen, &reason);
-        }
-    }
-    Err(refuse_save(rt, path, DiskFault::Changed))
-}
-
-// Whether a file, if it is opened, is locked now, and still the one of its path.
-fn is_alone(rt: &HostRuntime, path: &str, seen: &io::Result<OpenedFile>) -> Result<bool, Status>
-    ensures err { IfErr result (λ status. status ≡ Refused) }
-{
-    match seen {
-        Ok(seen) => match seen.lock(rt.alloc(), &mut SystemDisk::new(rt)) {
-            Ok(Lock::Taken(_) | Lock::Needless) => Ok(true),
-            Ok(Lock::Gone) => Ok(false),
-            Err(fault) => Err(refuse_save(rt, path, fault)),
-        },
-        Err(_) => Ok(true),
-    }
 }
 
 // Opens the file of a path, and asks what it is; or why it isn't opened, which becomes the reason.
@@ -116,15 +85,27 @@ fn read_opened<'w>(
     let mut writer = ClearingWriter::new(io::writer(rt), &meter);
     let found = open_file(rt.alloc(), counted, &mut Output::new(&mut writer));
     meter.clear();
-    tell_reason(rt, path, reason);
     if is_held {
         unlock(opened);
     }
     match (found, seen) {
         (Ok((wards, form)), Ok(seen)) => Ok((wards, HeldFile { path, seen, form })),
-        (Err(status), _) => Err(status),
+        (Err(unopened), _) => Err(refuse_opening(rt, path, unopened, reason)),
         (Ok(_), Err(_)) => Err(Status::Refused),
     }
+}
+
+// Says why a file isn't opened, and gives the status with which the program ends.
+fn refuse_opening(rt: &HostRuntime, path: &str, unopened: Unopened, reason: &Reason) -> Status
+    ensures { result ≡ Refused }
+{
+    match unopened {
+        Unopened::Unread => tell_unopened(rt, path, reason),
+        Unopened::Refused(fault) => {
+            tell_fault(rt, path, StoreError::of_opening(fault, reason.get()));
+        }
+    }
+    Status::Refused
 }
 
 // Whether an opened file is kept from writers while it is read, as one that is changed in place is.

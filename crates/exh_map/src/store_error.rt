@@ -19,86 +19,92 @@ use thiserror::Error;
 #[derive(Debug, Drop, Error)]
 pub enum StoreError {
     /// The key has no bytes.
-    #[error("a key has at least one byte")]
+    #[error("a key has at least one byte (refused 12)")]
     EmptyKey,
     /// The key has so many bytes, more than 64.
-    #[error("a key has at most 64 bytes, and not {length}")]
+    #[error("a key has at most 64 bytes, and this one has {length} (refused 12)")]
     KeyTooLong { length: usize },
     /// The value has so many bytes, more than 128.
-    #[error("a value has at most 128 bytes, and not {length}")]
+    #[error("a value has at most 128 bytes, and this one has {length} (refused 12)")]
     ValueTooLong { length: usize },
     /// A cap that isn't 1 to 16, or ward bits above 4.
-    #[error("a page holds 1 to 16 records, and a file has at most 2^4 parts")]
+    #[error("a page holds 1 to 16 records, and a file has at most 2^4 parts (refused 61)")]
     Settings,
     /// Something is at the path of a new file.
-    #[error("something is there already")]
+    #[error("something is there already, and stays")]
     Exists,
     /// Nothing is at the path.
-    #[error("nothing is there")]
+    #[error("no page file is there: `exhash create` makes one (refused 41)")]
     Absent,
     /// Another process has the writers' lock.
-    #[error("another process is at work on it")]
+    #[error("another process is at work on it: try again, or wait longer")]
     Busy,
     /// The file is no longer at its path.
-    #[error("the file is no longer at its path")]
+    #[error("the file is no longer at its path, and nothing was saved")]
     Vanished,
     /// The file is another state than the one that was opened, or others came to its path or changed it all the while.
-    #[error("it was changed by others")]
+    #[error("it was changed by others meanwhile: try again")]
     Changed,
     /// What is there doesn't begin as a page file does.
-    #[error("it is no page file")]
+    #[error("it is no page file (refused 36)")]
     NoPageFile,
+    /// What is there ends before a page file's header does, and doesn't begin as one.
+    #[error("it is no page file (refused 38)")]
+    NoHeader,
     /// It is a page file of a version that isn't known.
-    #[error("the page file is of a version that isn't known")]
+    #[error("it is a page file of a version that isn't known: a newer program may know it (refused 37)")]
     UnknownVersion,
     /// It is of version 1 or 2, which isn't changed in place. A store opens it.
-    #[error("the page file is of a version that isn't changed in place")]
+    #[error("it is a page file of a version that isn't changed in place: open it as a store")]
     OldVersion,
     /// The block at this place isn't what belongs there, the header being block 0.
-    #[error("block {block}: {fault}")]
+    #[error("block {block} is damaged (refused {number} at {block})", number = .fault.number())]
     Damaged { block: u32, fault: ImageFault },
     /// It ends amid a block, or before its last one.
-    #[error("it ends too early")]
+    #[error("it ends too early (refused 38)")]
     Truncated,
     /// Bytes stand behind its last block.
-    #[error("it goes on behind its last block")]
+    #[error("it goes on behind its last block (refused 39)")]
     Trailing,
     /// Its pages and tables don't fit together, for this reason first.
-    #[error("the page file isn't legal: {0}")]
+    #[error("its pages and its table don't fit together (refused 40 {0})")]
     Illegal(Reason),
     /// The pages on a key's way don't lead to the key's own.
-    #[error("the page file isn't legal: its links don't lead to the key's page")]
+    #[error("its links don't lead to the key's page (refused 40)")]
     Astray,
     /// It can't be changed in place.
     #[error("{0}")]
     Unfit(InPlaceFault),
     /// It can't be replaced by a new file.
-    #[error("{0}")]
+    #[error("{0} (refused 42)")]
     Unsaved(DiskFault),
     /// It would be longer than the system lets a file be.
-    #[error("{0}")]
+    #[error("{0} (refused 42)")]
     AboveLimit(AboveLimit),
     /// The store was opened to be read alone.
     #[error("the store was opened to be read")]
     ReadOnly,
     /// The change wasn't saved.
-    #[error("{0}")]
+    #[error("{0} (refused 42)")]
     NotSaved(Refused),
     /// The change may have been saved, or was and stands in the log beside the file: who opens it next finds it whole or not
     /// at all.
-    #[error("{0}")]
+    #[error("{0}; see what is there before it is tried again (refused 42)")]
     Unsure(Refused),
     /// The change was saved, but the store has its file no longer.
-    #[error("it is saved, but can't be opened again: {0}")]
+    #[error("it is saved, but can't be opened again: {0} (refused 41)")]
     Unheld(io::Error),
     /// A page couldn't be reached. The stores of the program reach every page.
-    #[error("a page is out of reach")]
+    #[error("a page is out of reach (refused 11)")]
     OutOfReach,
     /// A growth was refused.
-    #[error("out of memory")]
+    #[error("out of memory (refused 10)")]
     Memory,
+    /// The path of its folder isn't UTF-8, as the system has it, so that the file isn't found by its path without links.
+    #[error("its folder's path isn't UTF-8: move the file to another folder (refused 41)")]
+    FolderNotText,
     /// The system failed.
-    #[error("{0}")]
+    #[error("{0} (refused 41)")]
     Io(io::Error),
 }
 
@@ -159,9 +165,15 @@ impl From<io::Error> for StoreError {
     fn from(error: io::Error) -> StoreError {
         match error.kind() {
             ErrorKind::OutOfMemory => StoreError::Memory,
+            _ if is_of_folder(&error) => StoreError::FolderNotText,
             _ => StoreError::Io(error),
         }
     }
+}
+
+// Whether an error tells that a path without links isn't UTF-8, and not that the system found a name too long.
+fn is_of_folder(error: &io::Error) -> bool {
+    error.kind() == ErrorKind::InvalidFilename && error.raw_os_error().is_none()
 }
 
 impl From<WardFault> for StoreError {
@@ -237,7 +249,7 @@ impl From<InPlaceFault> for StoreError {
             InPlaceFault::Changed | InPlaceFault::NotAsOpened | InPlaceFault::Restless => {
                 StoreError::Changed
             }
-            InPlaceFault::System(error) => StoreError::Io(error),
+            InPlaceFault::System(error) => StoreError::from(error),
             InPlaceFault::Memory => StoreError::Memory,
             fault => StoreError::Unfit(fault),
         }
@@ -267,6 +279,7 @@ impl From<DiskFault> for StoreError {
             DiskFault::Busy => StoreError::Busy,
             DiskFault::NotAsOpened | DiskFault::Changed => StoreError::Changed,
             DiskFault::NoPageFile => StoreError::NoPageFile,
+            DiskFault::System { error, .. } if is_of_folder(&error) => StoreError::FolderNotText,
             fault => StoreError::Unsaved(fault),
         }
     }

@@ -5,10 +5,14 @@ use Rattle.std.proofs.lemmas.Bool.{and_from, cond-true}
 use Rattle.sqlite_disk.specs.declared.Disk.{Ghosts}
 use Rattle.exh_edits.specs.declared.block_edit.BlockEdit.{BlockEdit}
 use Rattle.exh_edits.specs.BlockEdits.{with_edits}
-use Rattle.exh_edits.specs.Comparison.{AreDifferences, Comparison, IsWholeBlocks, comparison_of, contents_of, pair_bytes}
+use Rattle.exh_edits.specs.Comparison.{AreDifferences, Comparison, EndsEarly, IsWholeBlocks, comparison_of, contents_of, pair_bytes}
 use Rattle.exh_commit.specs.declared.paged_file.PagedFile.{PagedFile}
 use Rattle.exh_commit.specs.PagedFile.{IsReady, bytes_in, known_in, state_in}
 use Rattle.exh_file.specs.Draft.{DraftState, IsDraftSaving, bytes_in as draft_bytes}
+use Rattle.exh_edits.specs.declared.differing_fault.DifferingFault.{DifferingFault}
+use Rattle.exh_edits.specs.declared.differing_fault.DifferingFault.TheVariants.{Shorter}
+use Rattle.exh_paged.specs.declared.save_files_fault.SaveFilesFault.TheVariants.{Content}
+use Rattle.exh_paged.specs.SaveFilesFault.{IsOfContent}
 use Rattle.exh_paged.specs.Saving.{AreEditsToDraft, IsSavedOver}
 
 appended : (old wanted : List ℕ) (now : Option (List ℕ)) → Appends (contents_of (comparison_of (Some old) [] 0 [])) now wanted → now ≡ Some (pair_bytes old wanted)
@@ -21,11 +25,20 @@ pub made_to : (known : Option (List ℕ)) (draft : DraftState) (now : Option Com
 made_to None draft now edits appends made = tt
 made_to (Some old) draft now edits appends made = λ whole. (made old (draft_bytes draft) (appended old (draft_bytes draft) (contents_of now) appends) whole).to.whole
 
+shorter_of : (fault other : DifferingFault) → Content fault ≡ Content other → fault ≡ other
+shorter_of fault other same = cc
+
+-- a draft that was written whole ends early where its edits are refused as that
+pub content_of : (known : Option (List ℕ)) (draft : DraftState) (now : Option Comparison) (fault : DifferingFault) → Appends (contents_of (comparison_of known [] 0 [])) (contents_of now) (draft_bytes draft)
+    → ((old new : List ℕ) → contents_of now ≡ Some (pair_bytes old new) → fault ≡ Shorter → EndsEarly old new) → IfSome known (λ old. IsOfContent draft old (Content fault))
+content_of None draft now fault appends early = tt
+content_of (Some old) draft now fault appends early = λ same. early old (draft_bytes draft) (appended old (draft_bytes draft) (contents_of now) appends) (shorter_of fault Shorter same)
+
 whole_blocks : (bytes : List ℕ) (count : ℕ) → length bytes ≡ 4096 * count → IsWholeBlocks bytes
 whole_blocks bytes count len = omega (arith, len)
 
 module _ {D : Type 0} {g : Ghosts D} where
-  known_gives : (truthful : Bool) (it : PagedFile D g) (P : List ℕ → Type 0) → IsTrue truthful → IsReady it → IfSome (known_in truthful it) P → P (bytes_in it)
+  pub known_gives : (truthful : Bool) (it : PagedFile D g) (P : List ℕ → Type 0) → IsTrue truthful → IsReady it → IfSome (known_in truthful it) P → P (bytes_in it)
   known_gives truthful it P truth ready holds = subst (λ (known : Option (List ℕ)). IfSome known P) (cond-true _ _ _ (and_from truthful (state_in it).is_ready truth ready)) holds
 
   -- the bytes after the edits that were passed on are saved over those from before

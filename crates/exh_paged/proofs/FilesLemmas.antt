@@ -5,7 +5,24 @@ use Rattle.sqlite_disk.specs.Disk.{Only}
 use Rattle.sqlite_wal.specs.Files.{seen_image}
 use Rattle.sqlite_wal.specs.Reads.{AreClean}
 use Rattle.sqlite_wal.specs.Recovery.{Image}
+use Rattle.sqlite_wal.specs.declared.error.Error.{Error}
+use Rattle.exh_commit.specs.declared.change_fault.ChangeFault.{ChangeFault}
+use Rattle.exh_commit.specs.declared.change_fault.ChangeFault.TheVariants.{Open, Refused, Commit, LeftInLog}
 use Rattle.exh_commit.specs.FilePages.{Leaves, LeavesAlone, LeavesAsFound, StandsFor, pages_of}
+use Rattle.exh_paged.specs.declared.files_fault.FilesFault.{FilesFault}
+use Rattle.exh_paged.specs.declared.files_fault.FilesFault.TheVariants.{OthersLog, NotAsOpened, Header, Read, Change}
+use Rattle.exh_paged.specs.FilesFault.{ChangeFails, IsEarly}
+
+-- of a fault that came before the change nothing is said but of an opening
+pub early_fails : (Holds : ChangeFault → Type 0) → ((error : Error) → Holds (Open error)) → (fault : FilesFault) → IsEarly fault → ChangeFails Holds fault
+early_fails Holds opened OthersLog early = tt
+early_fails Holds opened NotAsOpened early = tt
+early_fails Holds opened (Header fault) early = tt
+early_fails Holds opened (Read error) early = tt
+early_fails Holds opened (Change (Open error)) early = opened error
+early_fails Holds opened (Change (Refused fault)) early = absurd early
+early_fails Holds opened (Change (Commit fault)) early = absurd early
+early_fails Holds opened (Change (LeftInLog error)) early = absurd early
 
 -- of files that are given back it is left what is left of them, of the bytes that they stood for
 pub leaves_as : {D : Type 0} (g : Ghosts D) (files back : D × D) (P : List ℕ → List ℕ → Type 0) (mid old : List ℕ) → back ≡ files → (AreClean g files.0 files.1 → mid ≡ old) → Leaves g files (P mid) → Leaves g back (P old)

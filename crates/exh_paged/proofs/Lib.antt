@@ -1,5 +1,5 @@
 pub mod FilesLemmas
 pub mod DraftLemmas
 pub mod CallLemmas
-pub mod CallsLemmas
+pub mod EditLemmas
 pub mod PutLemmas

@@ -1,5 +1,5 @@
 -- Puts with a condition: the reply to the put tells what the key was.
-use Rattle.std.proofs.Common.{◌≡◌, ℕ, Bool, true, false, List, [], Option, None, Some, refl, sym, ◌∙◌, ap, subst}
+use Rattle.std.proofs.Common.{◌≡◌, ℕ, Bool, true, false, List, [], Option, None, Some, inl, inr, refl, sym, ◌∙◌, ap, subst}
 use Rattle.std.specs.FinMap as fin
 use Rattle.exh_keyer.specs.Pseudokey.{any_pseudokey}
 use Rattle.exh_table.specs.Table.{TableMap}
@@ -9,7 +9,6 @@ use Rattle.exh_calls.specs.MapMachine.{changed, is_full, map_after, reply_of}
 use Rattle.exh_calls.specs.declared.call.Call.{Call}
 use Rattle.exh_calls.specs.declared.call.Call.TheVariants.{Get, Put}
 use Rattle.exh_calls.specs.declared.reply.Reply.{Reply}
-use Rattle.exh_format.specs.Reading.{AreBytes}
 use Rattle.exh_cells.specs.LegalPlaced.{IsLegalPlacedFile}
 use Rattle.exh_cells.specs.PlacedFile.{PlacedFile}
 use Rattle.exh_edits.specs.declared.block_edit.BlockEdit.{BlockEdit}
@@ -17,11 +16,12 @@ use Rattle.exh_edits.specs.BlockEdits.{with_edits}
 use Rattle.exh_walked.specs.PlacedLaws.{map_in}
 use Rattle.exh_change.specs.declared.changed.Changed.{Changed}
 use Rattle.exh_change.specs.ChangeLaws.{IsChange, map_then, reply_in}
-use Rattle.exh_paged.specs.CallChange.{HasPairs, IsMade}
-use Rattle.exh_paged.specs.PutIf.{MayPut, call_for, call_in, edits_kept, reply_kept}
+use Rattle.exh_paged.specs.CallChange.{AreWithin, IsMade, IsStamped}
+use Rattle.exh_paged.specs.PutIf.{call_for, call_in, edits_kept, reply_kept}
 use Rattle.exh_paged.specs.declared.put_if.KeyIs.{KeyIs}
 use Rattle.exh_paged.specs.declared.put_if.KeyIs.TheVariants.{New, There}
 use Rattle.exh_paged.specs.declared.put_if.PutIf.{PutIf}
+use Rattle.exh_paged.proofs.EditLemmas.{none_within}
 
 -- ---- by what the key is, and whether new keys are turned away
 
@@ -47,6 +47,15 @@ pairs_by P m edits New key value full (Some stood) same put = same
 pairs_by P m edits There key value true None same put = same
 pairs_by P m edits There key value false None same put = same
 pairs_by P m edits There key value full (Some stood) same put = put
+
+-- what is left of a legal page file by edits
+record IsLeftBy (file : PlacedFile) (bytes : List ℕ) (stamp : ℕ) (edits : List BlockEdit) (pairs : KeyMap) : Type 0 where
+  new : PlacedFile
+  tables : List TableMap
+  legal : IsLegalPlacedFile new tables (with_edits edits bytes)
+  pairs_are : map_in new ≡ pairs
+  stamped : IsStamped file stamp edits new
+  within : AreWithin bytes edits
 
 -- ---- over a map: the call's own key is the put's
 
@@ -80,21 +89,25 @@ module _ (cap : ℕ) (pseudo : List ℕ → ℕ) (m : KeyMap) (key value : List 
 
 -- ---- over a page file
 
-pub may_put : (put : PutIf) (stamp : ℕ) (bytes : List ℕ) (made : Changed) (reply : Reply) (edits : List BlockEdit) → reply ≡ reply_kept put.key_is made.reply → edits ≡ edits_kept put.key_is made.reply made.edits.items
-    → ((file : PlacedFile) (tables : List TableMap) → AreBytes bytes → IsLegalPlacedFile file tables bytes → IsChange file bytes (Put put.key put.value) stamp made) → MayPut put bytes reply edits
-may_put put stamp bytes made reply edits reply_is edits_are changes file tables bytes_are legal =
-    let is = changes file tables bytes_are legal in
+pub put_made : (put : PutIf) (stamp : ℕ) (bytes : List ℕ) (made : Changed) (reply : Reply) (edits : List BlockEdit) → reply ≡ reply_kept put.key_is made.reply → edits ≡ edits_kept put.key_is made.reply made.edits.items
+    → (file : PlacedFile) (tables : List TableMap) → IsLegalPlacedFile file tables bytes → AreWithin bytes made.edits.items → IsChange file bytes (Put put.key put.value) stamp made
+    → IsMade ⊥ file bytes (map_then file (call_in file put)) (λ (stamp : ℕ) (reply : Reply). reply ≡ reply_in file (call_in file put)) stamp reply edits
+put_made put stamp bytes made reply edits reply_is edits_are file tables legal within is =
     let cap = file.header.settings.cap in
     let pseudo : List ℕ → ℕ = any_pseudokey file.header.settings.keyer in
-    let Pairs : List BlockEdit → KeyMap → Type 0 = λ edits pairs. HasPairs (with_edits edits bytes) pairs in
-    let same : HasPairs bytes (map_in file) = record { file = file; tables = tables; legal = legal; is = refl } in
-    let after : HasPairs (with_edits made.edits.items bytes) (map_then file (Put put.key put.value)) = record { file = is.new; tables = is.tables; legal = is.legal; is = is.map_is } in
+    let same : IsLeftBy file bytes stamp [] (map_in file) = record { new = file; tables = tables; legal = legal; pairs_are = refl; stamped = inl refl; within = none_within bytes } in
+    let after : IsLeftBy file bytes stamp made.edits.items (map_then file (Put put.key put.value)) =
+    record { new = is.new; tables = is.tables; legal = is.legal; pairs_are = is.map_is; stamped = elim is.stamped [ inl none ↦ inl none.0 | inr both ↦ inr both ]; within = within } in
     let edits_so : edits ≡ edits_kept put.key_is (reply_in file (Put put.key put.value)) made.edits.items = edits_are ∙ ap (λ (answer : Reply). edits_kept put.key_is answer made.edits.items) is.reply in
+    let left : IsLeftBy file bytes stamp edits (map_then file (call_in file put)) = subst (λ (edits : List BlockEdit). IsLeftBy file bytes stamp edits (map_then file (call_in file put))) (sym edits_so)
+    (pairs_for cap pseudo (map_in file) put.key put.value (IsLeftBy file bytes stamp) made.edits.items put.key_is same after) in
     record {
-      pairs = subst (λ (edits : List BlockEdit). HasPairs (with_edits edits bytes) (map_then file (call_in file put))) (sym edits_so)
-          (pairs_for cap pseudo (map_in file) put.key put.value Pairs made.edits.items put.key_is same after);
-      reply_is = reply_is ∙ ap (reply_kept put.key_is) is.reply ∙ reply_for cap pseudo (map_in file) put.key put.value put.key_is;
+      new = left.new;
+      tables = left.tables;
+      legal = left.legal;
+      pairs_are = left.pairs_are;
+      answer_is = reply_is ∙ ap (reply_kept put.key_is) is.reply ∙ reply_for cap pseudo (map_in file) put.key put.value put.key_is;
+      stamped = left.stamped;
+      within = left.within;
+      idle = λ never. absurd never;
     }
-
-pub put_made : (file : PlacedFile) (tables : List TableMap) (put : PutIf) (old : List ℕ) → AreBytes old → IsLegalPlacedFile file tables old → (reply : Reply) (edits : List BlockEdit) → MayPut put old reply edits → IsMade file old (call_in file put) reply edits
-put_made file tables put old bytes_are legal reply edits may = may file tables bytes_are legal

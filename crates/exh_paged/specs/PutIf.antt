@@ -1,17 +1,13 @@
 -- Puts that are made only of a key that is as it should be.
 use Rattle.std.specs.Prelude.{ℕ, List, [], Option, None, Some}
 use Rattle.std.specs.FinMap as fin
-use Rattle.exh_table.specs.Table.{TableMap}
 use Rattle.exh_calls.specs.declared.call.Call.{Call}
 use Rattle.exh_calls.specs.declared.call.Call.TheVariants.{Get, Put}
 use Rattle.exh_calls.specs.declared.reply.Reply.{Reply}
 use Rattle.exh_calls.specs.declared.reply.Reply.TheVariants as reply
-use Rattle.exh_format.specs.Reading.{AreBytes}
-use Rattle.exh_cells.specs.LegalPlaced.{IsLegalPlacedFile}
 use Rattle.exh_cells.specs.PlacedFile.{PlacedFile}
 use Rattle.exh_edits.specs.declared.block_edit.BlockEdit.{BlockEdit}
 use Rattle.exh_walked.specs.PlacedLaws.{map_in}
-use Rattle.exh_paged.specs.CallChange.{IsMade}
 use Rattle.exh_paged.specs.declared.put_if.KeyIs.{KeyIs}
 use Rattle.exh_paged.specs.declared.put_if.KeyIs.TheVariants.{New, There}
 use Rattle.exh_paged.specs.declared.put_if.PutIf.{PutIf}
@@ -42,9 +38,3 @@ edits_kept New (reply.Was stood) edits = []
 edits_kept There reply.New edits = []
 edits_kept There reply.Full edits = []
 edits_kept key_is answer edits = edits
-
--- ---- what may be made of a file
-
--- what that call makes; of bytes that are no legal page file nothing is said
-abbrev pub MayPut : PutIf → List ℕ → Reply → List BlockEdit → Type 0
-MayPut put bytes answer edits = (file : PlacedFile) (tables : List TableMap) → AreBytes bytes → IsLegalPlacedFile file tables bytes → IsMade file bytes (call_in file put) answer edits

@@ -1,25 +1,9 @@
 -- Wards that are saved over the file that they came of.
 use Rattle.std.specs.Prelude.{◌≡◌, ◌⊎◌, Bool, ℕ, List, Option, IfSome, IsTrue}
-use Rattle.exh_cells.specs.declared.stamped_header.StampedHeader.{StampedHeader}
 use Rattle.exh_edits.specs.declared.block_edit.BlockEdit.{BlockEdit}
 use Rattle.exh_edits.specs.BlockEdits.{with_edits}
 use Rattle.exh_edits.specs.Comparison.{IsWholeBlocks}
 use Rattle.exh_file.specs.Draft.{DraftState, IsDraftSaving, bytes_in}
-use Rattle.exh_paged.specs.OwnLog.{HasHeader}
-
--- ---- the state in which the file is
-
--- its header has this stamp
-pub record HasStamp (stamp : ℕ) (bytes : List ℕ) : Type 0 where
-  pub header : StampedHeader
-  pub there : HasHeader bytes header
-  pub is : header.stamp ≡ stamp
-
--- it has another one
-pub record HasOtherStamp (stamp : ℕ) (bytes : List ℕ) : Type 0 where
-  pub header : StampedHeader
-  pub there : HasHeader bytes header
-  pub never : header.stamp ≡ stamp → ⊥
 
 -- ---- what is saved
 

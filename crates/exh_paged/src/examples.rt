@@ -2,7 +2,7 @@
 ghost use Rattle.std.specs.Prelude.{⊤, IsTrue, IfOk};
 ghost use Rattle.sqlite_disk.specs.Disk.{Only};
 
-use crate::{FilesFault, change_files, recover_files};
+use crate::{Expected, FilesFault, change_files, recover_files};
 use exh_codec::{BLOCK_LEN, seal};
 use exh_commit::Changer;
 use exh_direct::{Blocks, DirectFault};
@@ -61,14 +61,14 @@ fn file_of(alloc: Global, header: &[u8; BLOCK_LEN]) -> Result<(Memory, Memory), 
 fn recovered(
     alloc: Global,
     header: &[u8; BLOCK_LEN],
-    own: Option<u64>,
+    expected: Expected,
 ) -> Result<Result<(), FilesFault>, Fail> {
     let (log, db) = file_of(alloc, header)?;
     let files = Files {
         log: durable(log)?,
         db: durable(db)?,
     };
-    let (found, _) = recover_files(alloc, files, options(), own);
+    let (found, _) = recover_files(alloc, files, options(), expected);
     Ok(found)
 }
 
@@ -79,6 +79,8 @@ impl Changer for Nines {
     type Answer = u8;
 
     ghost allows = { λ _ _ _ _. ⊤ };
+
+    ghost refuses = { λ _ _ _. ⊤ };
 
     fn change<B: Blocks>(
         &self,
@@ -100,13 +102,17 @@ impl Changer for Nines {
 }
 
 // The first byte behind the header after a change, and whether it was made.
-fn changed(alloc: Global, header: &[u8; BLOCK_LEN], own: Option<u64>) -> Result<(bool, u8), Fail> {
+fn changed(
+    alloc: Global,
+    header: &[u8; BLOCK_LEN],
+    expected: Expected,
+) -> Result<(bool, u8), Fail> {
     let (log, db) = file_of(alloc, header)?;
     let files = Files {
         log: durable(log)?,
         db: durable(db)?,
     };
-    let (made, files) = change_files(alloc, files, options(), own, &Nines);
+    let (made, files) = change_files(alloc, files, options(), expected, &Nines);
     let Some(byte) = files.db.bytes().get(BLOCK_LEN) else {
         return Err("two blocks".into());
     };
@@ -116,18 +122,18 @@ fn changed(alloc: Global, header: &[u8; BLOCK_LEN], own: Option<u64>) -> Result<
 #[test]
 fn another_files_log_is_refused(rt: HostRuntime) -> Result<(), Fail> {
     let block = header(STAMP, 4);
-    assert!(rt; recovered(rt.alloc(), &block, Some(5))?.is_ok());
-    assert!(rt; recovered(rt.alloc(), &block, Some(4))?.is_ok());
-    assert!(rt; recovered(rt.alloc(), &block, None)?.is_ok());
+    assert!(rt; recovered(rt.alloc(), &block, Expected::Own(Some(5)))?.is_ok());
+    assert!(rt; recovered(rt.alloc(), &block, Expected::Own(Some(4)))?.is_ok());
+    assert!(rt; recovered(rt.alloc(), &block, Expected::Own(None))?.is_ok());
     assert!(rt;
         matches!(
-            recovered(rt.alloc(), &block, Some(6))?,
+            recovered(rt.alloc(), &block, Expected::Own(Some(6)))?,
             Err(FilesFault::OthersLog)
         )
     );
     assert!(rt;
         matches!(
-            recovered(rt.alloc(), &[0; BLOCK_LEN], Some(5))?,
+            recovered(rt.alloc(), &[0; BLOCK_LEN], Expected::Own(Some(5)))?,
             Err(FilesFault::Header(_))
         )
     );
@@ -137,7 +143,18 @@ fn another_files_log_is_refused(rt: HostRuntime) -> Result<(), Fail> {
 #[test]
 fn just_the_own_file_is_changed(rt: HostRuntime) -> Result<(), Fail> {
     let block = header(STAMP, 4);
-    assert_eq!(rt; changed(rt.alloc(), &block, Some(5))?, (true, 9));
-    assert_eq!(rt; changed(rt.alloc(), &block, Some(6))?, (false, 1));
+    assert_eq!(rt;
+        changed(rt.alloc(), &block, Expected::Own(Some(5)))?,
+        (true, 9)
+    );
+    assert_eq!(rt;
+        changed(rt.alloc(), &block, Expected::Own(Some(6)))?,
+        (false, 1)
+    );
+    assert_eq!(rt; changed(rt.alloc(), &block, Expected::Stamp(5))?, (true, 9));
+    assert_eq!(rt;
+        changed(rt.alloc(), &block, Expected::Stamp(4))?,
+        (false, 1)
+    );
     Ok(())
 }

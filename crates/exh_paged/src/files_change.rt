@@ -1,31 +1,33 @@
-//! Changes of a page file over any disk, whose log must be its own.
+//! Changes of a page file over any disk that is in the state that is expected.
 ghost use Rattle.std.specs.Prelude.{◌≡◌, ℕ, List, IsTrue, IfErr, IfOk, OnOk};
 ghost use Rattle.sqlite_disk.specs.Disk.{Only};
 ghost use Rattle.sqlite_wal.specs.Files.{seen_image};
 ghost use Rattle.sqlite_wal.specs.Reads.{AreClean};
 ghost use Rattle.exh_commit.specs.Change.{IsChanged, IsOldOrChanged, MayChange};
+ghost use Rattle.exh_commit.specs.Change as changes;
 ghost use Rattle.exh_commit.specs.FilePages.{Leaves, LeavesAlone, StandsFor};
-ghost use Rattle.exh_paged.specs.FilesFault.{IsCause, IsSaved, IsUnchanged};
-ghost use Rattle.exh_paged.specs.OwnLog.{IsOwn};
+ghost use Rattle.exh_paged.specs.FilesFault.{ChangeFails, IsCause, IsSaved, IsUnchanged};
+ghost use Rattle.exh_paged.specs.OwnLog.{IsExpected};
 
-use crate::FilesFault;
-use crate::own_log::see_own;
-use exh_commit::{ChangeFault, Changer, Truthful, open};
+use crate::opening::open_expected;
+use crate::{Expected, FilesFault};
+use exh_commit::{Changer, Truthful};
 use sqlite_disk::Files;
 use sqlite_pager::Options;
 use std::alloc::Global;
 
-/// Opens a page file with its log, whatever a crash left of them, sees that the log is the file's own, commits the edits that
-/// a changer makes of it, moves them into the file, and gives both back. `own` is the stamp of the file without its log, `None`
-/// where its header is damaged. It takes memory for the blocks that are kept, as many as the options say, and for the edits.
+/// Opens a page file with its log, whatever a crash left of them, sees that it is in the state that is expected, commits the
+/// edits that a changer makes of it, moves them into the file, and gives both back. It takes memory for the blocks that are
+/// kept, as many as the options say, and for the edits.
 ///
-/// `OthersLog`: the log is another file's. `Header`: the header fails this test. `Read`: it couldn't be read. `Change`: the
-/// two couldn't be opened, the changer refused, or the edits weren't saved, or may not have been, as the fault says.
+/// `OthersLog`: the log is another file's. `NotAsOpened`: the file has another stamp. `Header`: the header fails this test.
+/// `Read`: it couldn't be read. `Change`: the two couldn't be opened, the changer refused, or the edits weren't saved, or may
+/// not have been, as the fault says.
 pub fn change_files<D: Truthful + Drop, C: Changer>(
     alloc: Global,
     files: Files<D>,
     options: Options,
-    own: Option<u64>,
+    expected: Expected,
     changer: &C,
 ) -> (Result<C::Answer, FilesFault>, Files<D>)
     requires log { IsTrue (D.Disk.is_usable files.log) }
@@ -49,19 +51,16 @@ pub fn change_files<D: Truthful + Drop, C: Changer>(
     ensures saved { IfErr result.0 (λ fault. IsSaved fault → (old : List ℕ) → StandsFor (seen_image D.Disk files.log files.db) old
         → Leaves D.Disk (result.1.log, result.1.db) (MayChange D.Truthful.is_truthful (C.allows changer.now) old)) }
 
-    // What was changed is a state of the file itself, and another file's log is told, unless a wrong answer of the disk was taken as true.
-    ensures own { OnOk result.0 (AreClean D.Disk result.1.log result.1.db → (old : List ℕ) → StandsFor (seen_image D.Disk files.log files.db) old → IsOwn own old) }
-    ensures refused { IfErr result.0 (λ fault. AreClean D.Disk result.1.log result.1.db → (old : List ℕ) → StandsFor (seen_image D.Disk files.log files.db) old → IsCause own old fault) }
+    // What was changed is in the state that was expected, and another one is told, unless a wrong answer of the disk was taken as true.
+    ensures expected { OnOk result.0 (AreClean D.Disk result.1.log result.1.db → (old : List ℕ) → StandsFor (seen_image D.Disk files.log files.db) old → IsExpected expected old) }
+    ensures refused { IfErr result.0 (λ fault. AreClean D.Disk result.1.log result.1.db → (old : List ℕ) → StandsFor (seen_image D.Disk files.log files.db) old → IsCause expected old fault) }
+    ensures cause { IfErr result.0 (λ fault. IsTrue D.Truthful.is_truthful → (old : List ℕ) → StandsFor (seen_image D.Disk files.log files.db) old
+        → ChangeFails (changes.IsCause (C.allows changer.now) (C.refuses changer.now) old) fault) }
 {
-    let mut file = match open(alloc, files, options) {
+    let file = match open_expected(alloc, files, options, expected) {
         Ok(file) => file,
-        Err((error, files)) => {
-            return (Err(FilesFault::Change(ChangeFault::Open(error))), files);
-        }
+        Err((fault, files)) => return (Err(fault), files),
     };
-    if let Err(fault) = see_own(&mut file, own) {
-        return (Err(fault), file.close());
-    }
     let (changed, file) = file.change(alloc, changer);
     let files = file.close();
     match changed {

@@ -9,6 +9,9 @@ pub enum FilesFault {
     /// The log is another file's. Nothing was changed.
     #[error("the log beside it, of the same name with -wal behind it, is another file's: remove it")]
     OthersLog,
+    /// The file has another stamp than the one with which it was opened. Nothing was changed.
+    #[error("the page file was changed since it was opened")]
+    NotAsOpened,
     /// The header fails this test. Nothing was changed.
     #[error("{0}")]
     Header(FileFault),

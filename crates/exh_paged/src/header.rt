@@ -1,9 +1,10 @@
 //! The header of a page file of version 3 that was opened with its log.
-ghost use Rattle.std.specs.Prelude.{◌≡◌, ℕ, Option, IfErr, IfOk};
+ghost use Rattle.std.specs.Prelude.{◌≡◌, IfErr, IfOk};
 ghost use Rattle.sqlite_wal.specs.State.{Keeps};
 ghost use Rattle.exh_commit.specs.FilePages.{Leaves};
 ghost use Rattle.exh_commit.specs.PagedFile.{IsHonest, IsReady, bytes_in, files_in, state_in};
-ghost use Rattle.exh_paged.specs.FilesFault.{IsCause, IsSaved};
+ghost use Rattle.exh_paged.specs.declared.expected.Expected.{Expected};
+ghost use Rattle.exh_paged.specs.FilesFault.{IsCause, IsEarly, IsSaved};
 ghost use Rattle.exh_paged.specs.OwnLog.{HasHeader};
 
 use crate::FilesFault;
@@ -18,7 +19,8 @@ use sqlite_disk::Disk;
 pub(crate) fn header_in<D: Disk>(file: &mut PagedFile<D>) -> Result<StampedHeader, FilesFault>
     requires { IsReady file.old }
     ensures header { IfOk result (λ header. IsHonest file.new → HasHeader (bytes_in file.old) header) }
-    ensures refused { (own : Option ℕ) → IfErr result (λ fault. IsHonest file.new → IsCause own (bytes_in file.old) fault) }
+    ensures refused { (expected : Expected) → IfErr result (λ fault. IsHonest file.new → IsCause expected (bytes_in file.old) fault) }
+    ensures early { IfErr result IsEarly }
     ensures unsaved { IfErr result (λ fault. IsSaved fault → ⊥) }
     ensures same_bytes { bytes_in file.new ≡ bytes_in file.old }
     ensures ready { (state_in file.new).is_ready ≡ (state_in file.old).is_ready }

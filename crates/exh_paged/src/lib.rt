@@ -1,34 +1,39 @@
-//! Page files of version 3 over any disk, with a log: calls that they answer, puts that have a condition, and wards that are
-//! saved over them, so that a crash leaves the pairs from before or those from after.
+//! Page files of version 3 over any disk, with a log: operations that they answer, and wards that are saved over them, so that
+//! a crash leaves the pairs from before or those from after.
 #![tactic(auto)]
 
 pub use answered::Answered;
-pub use call_change::call_files;
+pub use answering::answer_files;
 pub use call_file::CallFile;
-pub use calls_change::calls_files;
-pub use draft_change::save_files;
+pub use calls::Calls;
+pub use draft_saving::save_files;
+pub use expected::Expected;
 pub use files_change::change_files;
 pub use files_fault::FilesFault;
-pub use put_change::put_files;
+pub use operation::Operation;
 pub use put_if::{KeyIs, PutIf};
 pub use recovery::recover_files;
 pub use save_files_fault::SaveFilesFault;
 pub use state_calls::answer_over;
 
 mod answered;
-mod call_change;
+mod answering;
+mod call;
 mod call_file;
-mod calls_change;
-mod draft_change;
+mod calls;
 mod draft_edits;
+mod draft_saving;
 #[cfg(test)]
 mod examples;
+mod expected;
 mod files_change;
 mod files_fault;
 mod header;
-mod own_log;
-mod put_change;
+mod opening;
+mod operated;
+mod operation;
 mod put_if;
+mod put_operation;
 mod recovery;
 mod save_files_fault;
 mod saving;

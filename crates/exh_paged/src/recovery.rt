@@ -5,26 +5,26 @@ ghost use Rattle.sqlite_wal.specs.Files.{seen_image};
 ghost use Rattle.sqlite_wal.specs.Reads.{AreClean};
 ghost use Rattle.exh_commit.specs.FilePages.{Leaves, LeavesAlone, StandsFor};
 ghost use Rattle.exh_paged.specs.FilesFault.{IsCause};
-ghost use Rattle.exh_paged.specs.OwnLog.{IsOwn};
+ghost use Rattle.exh_paged.specs.OwnLog.{IsExpected};
 
-use crate::FilesFault;
-use crate::own_log::see_own;
-use exh_commit::{ChangeFault, open};
+use crate::opening::open_expected;
+use crate::{Expected, FilesFault};
+use exh_commit::ChangeFault;
 use sqlite_disk::{Disk, Files};
 use sqlite_pager::Options;
 use std::alloc::Global;
 
-/// Opens a page file with its log, whatever a crash left of them, sees that the log is the file's own, moves what is
-/// committed into the file, and gives both back. `own` is the stamp of the file without its log, `None` where its header is
-/// damaged. It takes memory for the blocks that are kept, as many as the options say.
+/// Opens a page file with its log, whatever a crash left of them, sees that it is in the state that is expected, moves what is
+/// committed into the file, and gives both back. It takes memory for the blocks that are kept, as many as the options say.
 ///
-/// `OthersLog`: the log is another file's. `Header`: the header fails this test. `Read`: it couldn't be read. `Change`: the
-/// two couldn't be opened, or what is committed stands in the log, as the fault says.
+/// `OthersLog`: the log is another file's. `NotAsOpened`: the file has another stamp. `Header`: the header fails this test.
+/// `Read`: it couldn't be read. `Change`: the two couldn't be opened, or what is committed stands in the log, as the fault
+/// says.
 pub fn recover_files<D: Disk + Drop>(
     alloc: Global,
     files: Files<D>,
     options: Options,
-    own: Option<u64>,
+    expected: Expected,
 ) -> (Result<(), FilesFault>, Files<D>)
     requires log { IsTrue (D.Disk.is_usable files.log) }
     requires db { IsTrue (D.Disk.is_usable files.db) }
@@ -37,19 +37,14 @@ pub fn recover_files<D: Disk + Drop>(
     ensures crash { (old : List ℕ) → StandsFor (seen_image D.Disk files.log files.db) old → Leaves D.Disk (result.1.log, result.1.db) (λ bytes. bytes ≡ old) }
     ensures ok { OnOk result.0 ((old : List ℕ) → StandsFor (seen_image D.Disk files.log files.db) old → LeavesAlone D.Disk (result.1.log, result.1.db) (λ bytes. bytes ≡ old)) }
 
-    // They are a state of the file itself, and another file's log is told, unless a wrong answer of the disk was taken as true.
-    ensures own { OnOk result.0 (AreClean D.Disk result.1.log result.1.db → (old : List ℕ) → StandsFor (seen_image D.Disk files.log files.db) old → IsOwn own old) }
-    ensures refused { IfErr result.0 (λ fault. AreClean D.Disk result.1.log result.1.db → (old : List ℕ) → StandsFor (seen_image D.Disk files.log files.db) old → IsCause own old fault) }
+    // They are in the state that was expected, and another one is told, unless a wrong answer of the disk was taken as true.
+    ensures expected { OnOk result.0 (AreClean D.Disk result.1.log result.1.db → (old : List ℕ) → StandsFor (seen_image D.Disk files.log files.db) old → IsExpected expected old) }
+    ensures refused { IfErr result.0 (λ fault. AreClean D.Disk result.1.log result.1.db → (old : List ℕ) → StandsFor (seen_image D.Disk files.log files.db) old → IsCause expected old fault) }
 {
-    let mut file = match open(alloc, files, options) {
+    let mut file = match open_expected(alloc, files, options, expected) {
         Ok(file) => file,
-        Err((error, files)) => {
-            return (Err(FilesFault::Change(ChangeFault::Open(error))), files);
-        }
+        Err((fault, files)) => return (Err(fault), files),
     };
-    if let Err(fault) = see_own(&mut file, own) {
-        return (Err(fault), file.close());
-    }
     if let Err(error) = file.settle() {
         return (
             Err(FilesFault::Change(ChangeFault::LeftInLog(error))),

@@ -1,8 +1,9 @@
 //! Edits of an open file that are saved.
-ghost use Rattle.std.specs.Prelude.{◌≡◌, ℕ, List, Option, IfErr, OnOk};
+ghost use Rattle.std.specs.Prelude.{◌≡◌, ℕ, List, IfErr, OnOk};
 ghost use Rattle.exh_edits.specs.BlockEdits.{with_edits};
 ghost use Rattle.exh_commit.specs.FilePages.{Leaves, LeavesAlone};
 ghost use Rattle.exh_commit.specs.PagedFile.{IsHonest, IsOldOrEdited, IsReady, bytes_in, files_in};
+ghost use Rattle.exh_paged.specs.declared.expected.Expected.{Expected};
 ghost use Rattle.exh_paged.specs.FilesFault.{IsCause, IsSaved, IsUnchanged};
 
 use crate::FilesFault;
@@ -22,7 +23,7 @@ pub(crate) fn save_edits<D: Disk>(
     ensures alone { OnOk result.0 (LeavesAlone D.Disk (files_in result.1) (λ bytes. bytes ≡ with_edits edits.now (bytes_in file))) }
     ensures unchanged { IfErr result.0 (λ fault. IsUnchanged fault → Leaves D.Disk (files_in result.1) (λ bytes. bytes ≡ bytes_in file)) }
     ensures saved { IfErr result.0 (λ fault. IsSaved fault → Leaves D.Disk (files_in result.1) (λ bytes. bytes ≡ with_edits edits.now (bytes_in file))) }
-    ensures refused { (own : Option ℕ) (bytes : List ℕ) → IfErr result.0 (IsCause own bytes) }
+    ensures refused { (expected : Expected) (bytes : List ℕ) → IfErr result.0 (IsCause expected bytes) }
     ensures crash { Leaves D.Disk (files_in result.1) (IsOldOrEdited edits.now (bytes_in file)) }
     ensures honest { IsHonest result.1 → IsHonest file }
 {

@@ -5,9 +5,11 @@ pub use exh_disk::{DiskFault, Lock, Seen};
 pub use opening::open_above;
 pub use path::{look_at, save_at};
 pub use system_disk::{OpenedFile, SystemDisk, SystemFile, SystemHeld};
+pub use writers_lock::{LockWay, WAIT, lock_within, pause_after};
 
 mod found;
 mod opening;
 mod path;
 mod system_disk;
 mod wards;
+mod writers_lock;

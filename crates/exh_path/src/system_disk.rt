@@ -5,6 +5,7 @@ ghost use Rattle.exh_disk.specs.Seen.{IsSeenAt};
 
 use crate::found::found_of;
 use crate::opening::{open_above, open_with};
+use crate::writers_lock::{LockWay, WAIT, lock_within};
 use exh_disk::{Disk, Found, Head, Kind, Runner, Seen, Stage, folder_of};
 use std::alloc::Global;
 use std::fs::{File, OpenOptions, Permissions};
@@ -116,7 +117,7 @@ impl Disk for SystemDisk<'_> {
 
     // The lock is of all handles of one opening.
     fn hold(&mut self, opened: &File) -> io::Result<SystemHeld> {
-        opened.try_lock()?;
+        lock_within(self.rt, opened, LockWay::Alone, WAIT)?;
         let file = opened.try_clone()?;
         Ok(SystemHeld {
             file,

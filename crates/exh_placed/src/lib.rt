@@ -12,8 +12,6 @@ pub use placed_parts::PlacedParts;
 pub use reading::read_placed;
 
 mod block_source;
-#[cfg(test)]
-mod examples;
 mod laws;
 mod legal_placed;
 mod legal_reading;

@@ -12,8 +12,6 @@ pub use table_list::TableList;
 pub use writing::{write_header, write_place};
 
 mod cells;
-#[cfg(test)]
-mod examples;
 mod laws;
 mod order;
 mod page_at;

@@ -1,6 +1,7 @@
 //! What the program asks of the system about page files: their blocks, stamps, locks and logs, and the limit on their size.
 #![tactic(auto)]
 
+pub use exh_path::{WAIT, pause_after};
 pub use file_blocks::{FileBlocks, open_regular};
 pub use fit::{is_at, see_fit};
 pub use front::{Front, front_of};
@@ -10,7 +11,7 @@ pub use read_state::{Begun, ReadState, begin_reading};
 pub use said::{INPUT, Reason, tell_reason, tell_unprinted, with_reason};
 pub use size_limit::{AboveLimit, above_limit};
 pub use stamp::draw_stamp;
-pub use writers_lock::{WAIT, lock_soon, pause_after, share_soon};
+pub use writers_lock::{lock_soon, share_soon};
 
 mod file_blocks;
 mod fit;

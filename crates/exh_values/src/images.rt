@@ -1,8 +1,8 @@
-//! Stores of images that are made by themselves: which sizes a cache has, and the image of a page, byte by byte.
+//! The image of a page in a store of images, byte by byte.
 ghost use Rattle.std.specs.Prelude.{◌≡◌, length};
 
 use exh_codec::encode_page;
-use exh_frames::{CacheFault, FramedPages};
+use exh_frames::FramedPages;
 use exh_keyer::PlainKeyer;
 use exh_stores::Pages;
 use exh_ward::first_page;
@@ -26,27 +26,9 @@ fn has_first_page(alloc: Global, store: &FramedPages<PlainKeyer>) -> bool
         && image == encode_page(&PlainKeyer, &first_page(alloc, 1, 1))
 }
 
-// Whether no store of one page and none of no page is made behind a cache of a size.
-fn are_refused(alloc: Global, size: usize) -> bool {
-    let first = FramedPages::new(alloc, first_page(alloc, 1, 1), PlainKeyer, size);
-    let none = FramedPages::from_pages(alloc, Vec::new(alloc), PlainKeyer, size);
-    matches!(
-        (first, none),
-        (Err(CacheFault::Size), Err(CacheFault::Size))
-    )
-}
-
 #[test]
-fn stores_of_images(rt: HostRuntime) -> Result<(), Fail> {
-    let alloc = rt.alloc();
-    for size in [1, 1024] {
-        let first = FramedPages::new(alloc, first_page(alloc, 1, 1), PlainKeyer, size)?;
-        let none = FramedPages::from_pages(alloc, Vec::new(alloc), PlainKeyer, size)?;
-        assert!(rt; has_first_page(alloc, &first) && none.count() == 0);
-    }
-    for size in [0, 1025, usize::MAX] {
-        assert!(rt; are_refused(alloc, size));
-    }
-    assert!(rt; CacheFault::Size.number() == 61);
+fn image_of_a_first_page(rt: HostRuntime) -> Result<(), Fail> {
+    let store = FramedPages::new(rt.alloc(), first_page(rt.alloc(), 1, 1), PlainKeyer, 1)?;
+    assert!(rt; has_first_page(rt.alloc(), &store));
     Ok(())
 }

@@ -5,6 +5,8 @@
 #[cfg(test)]
 mod audits;
 #[cfg(test)]
+mod batches;
+#[cfg(test)]
 mod copies;
 #[cfg(test)]
 mod diaries;

@@ -8,8 +8,6 @@ pub use reading::read_any_file;
 
 mod any_file;
 mod entries;
-#[cfg(test)]
-mod examples;
 mod file_form;
 mod front;
 mod laws;

@@ -9,8 +9,6 @@ pub use homing::find_home;
 pub use search::page_count;
 
 mod any;
-#[cfg(test)]
-mod examples;
 mod finding;
 mod home;
 mod homing;

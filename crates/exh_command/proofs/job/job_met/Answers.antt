@@ -1,9 +1,8 @@
 use Rattle.std.specs.Prelude.{IsSome, Some}
 use Rattle.std.proofs.Common.{ap₂, inl, inr, refl, subst, sym, ◌∙◌}
 use Rattle.std.proofs.lemmas.Result.{IfErr-weaker, IfOk-weaker}
-use Rattle.exh_command.specs.Job.{Copying}
 use Rattle.exh_command.proofs.WordLemmas.{some_is}
-use Rattle.exh_command.proofs.ParserLemmas.{backups, checks, converts, creates, dels, dumps, gets, is_command, key_given, job_is, loads, manuals, no_options, own_is, own_of, pairs, path_given, puts, serves, some_met, storms, swaps, versions}
+use Rattle.exh_command.proofs.ParserLemmas.{checks, converts, dumps, is_command, job_is, loads, manuals, no_options, own_is, own_of, pairs, path_given, serves, some_met, storms, versions}
 use Rattle.exh_command.proofs.job.job_met.Goals as goal
 
 pub unreachable-requires : goal.unreachable-requires
@@ -59,78 +58,7 @@ returns-in-storm-clause-wrong c =
 pub unreachable-requires-in_default-command : goal.unreachable-requires-in_default-command
 unreachable-requires-in_default-command c =
     let own = own_is c.args.matches.now c.in-Some.command.now c.in-Some.own.now c.requires.0 c.in-Some.ensures.name c.in-Some.ensures.rows c.requires.1 in
-    is_command c.requires.0 c.in-Some.command.now c.in-Some.own.now own c.in_default-command.not-serve c.in_default-command.not-check c.in_default-command.not-dump c.in_default-command.not-load c.in_default-command.not-storm c.in_default-command.not-get c.in_default-command.not-put c.in_default-command.not-del c.in_default-command.not-swap c.in_default-command.not-pairs c.in_default-command.not-convert c.in_default-command.not-create c.in_default-command.not-backup c.in_default-command.not-version c.in_default-command.not-manual
-
-pub get_job-requires : goal.get_job-requires
-get_job-requires c =
-    let own = own_is c.args.matches.now c.in-Some.command.now c.in-Some.own.now c.requires.0 c.in-Some.ensures.name c.in-Some.ensures.rows c.requires.1 in
-    record {
-      path = path_given c.requires.0 c.in-Some.command.now c.in-Some.own.now own (no_options c.in-Some.command.now (inr (inr (inr c.in-get.is))));
-      key = key_given c.requires.0 c.in-Some.own.now (own_of c.args.matches.now c.in-Some.command.now c.in-Some.own.now _ c.in-Some.ensures.name c.in-Some.ensures.rows c.in-get.is c.requires.0 c.requires.1);
-    }
-
-pub returns-in-get-clause-named : goal.returns-in-get-clause-named
-returns-in-get-clause-named c =
-    IfOk-weaker c.get_job.result _ _ (λ job is asked met.
-    let given = gets asked c.in-Some.own.now (own_of c.args.matches.now c.in-Some.command.now c.in-Some.own.now _ c.in-Some.ensures.name c.in-Some.ensures.rows c.in-get.is asked met) in
-    job_is asked _ given.asked_is ∙ is given.path given.word given.path_is given.word_is) c.get_job.ensures.named
-
-pub returns-in-get-clause-wrong : goal.returns-in-get-clause-wrong
-returns-in-get-clause-wrong c =
-    IfErr-weaker c.get_job.result _ _ (λ fault none wrong asked met.
-    let given = gets asked c.in-Some.own.now (own_of c.args.matches.now c.in-Some.command.now c.in-Some.own.now _ c.in-Some.ensures.name c.in-Some.ensures.rows c.in-get.is asked met) in
-    job_is asked _ given.asked_is ∙ none wrong given.path given.word given.word_is) c.get_job.ensures.wrong
-
-pub put_job-requires : goal.put_job-requires
-put_job-requires c =
-    let given = puts c.requires.0 c.in-Some.own.now (own_of c.args.matches.now c.in-Some.command.now c.in-Some.own.now _ c.in-Some.ensures.name c.in-Some.ensures.rows c.in-put.is c.requires.0 c.requires.1) in
-    record { path = subst IsSome given.path_is refl; key = subst IsSome given.key_is refl; value = subst IsSome given.value_is refl }
-
-pub returns-in-put-clause-named : goal.returns-in-put-clause-named
-returns-in-put-clause-named c =
-    IfOk-weaker c.put_job.result _ _ (λ job is asked met.
-    let given = puts asked c.in-Some.own.now (own_of c.args.matches.now c.in-Some.command.now c.in-Some.own.now _ c.in-Some.ensures.name c.in-Some.ensures.rows c.in-put.is asked met) in
-    job_is asked _ given.asked_is ∙ is given.path given.key given.value given.path_is given.key_is given.value_is) c.put_job.ensures.named
-
-pub returns-in-put-clause-wrong : goal.returns-in-put-clause-wrong
-returns-in-put-clause-wrong c =
-    IfErr-weaker c.put_job.result _ _ (λ fault none wrong asked met.
-    let given = puts asked c.in-Some.own.now (own_of c.args.matches.now c.in-Some.command.now c.in-Some.own.now _ c.in-Some.ensures.name c.in-Some.ensures.rows c.in-put.is asked met) in
-    job_is asked _ given.asked_is ∙ none wrong given.path given.key given.value given.key_is given.value_is) c.put_job.ensures.wrong
-
-pub del_job-requires : goal.del_job-requires
-del_job-requires c =
-    let given = dels c.requires.0 c.in-Some.own.now (own_of c.args.matches.now c.in-Some.command.now c.in-Some.own.now _ c.in-Some.ensures.name c.in-Some.ensures.rows c.in-del.is c.requires.0 c.requires.1) in
-    record { path = subst IsSome given.path_is refl; key = subst IsSome given.key_is refl }
-
-pub returns-in-del-clause-named : goal.returns-in-del-clause-named
-returns-in-del-clause-named c =
-    IfOk-weaker c.del_job.result _ _ (λ job is asked met.
-    let given = dels asked c.in-Some.own.now (own_of c.args.matches.now c.in-Some.command.now c.in-Some.own.now _ c.in-Some.ensures.name c.in-Some.ensures.rows c.in-del.is asked met) in
-    job_is asked _ given.asked_is ∙ is given.path given.key given.path_is given.key_is) c.del_job.ensures.named
-
-pub returns-in-del-clause-wrong : goal.returns-in-del-clause-wrong
-returns-in-del-clause-wrong c =
-    IfErr-weaker c.del_job.result _ _ (λ fault none wrong asked met.
-    let given = dels asked c.in-Some.own.now (own_of c.args.matches.now c.in-Some.command.now c.in-Some.own.now _ c.in-Some.ensures.name c.in-Some.ensures.rows c.in-del.is asked met) in
-    job_is asked _ given.asked_is ∙ none wrong given.path given.key given.key_is) c.del_job.ensures.wrong
-
-pub swap_job-requires : goal.swap_job-requires
-swap_job-requires c =
-    let given = swaps c.requires.0 c.in-Some.own.now (own_of c.args.matches.now c.in-Some.command.now c.in-Some.own.now _ c.in-Some.ensures.name c.in-Some.ensures.rows c.in-swap.is c.requires.0 c.requires.1) in
-    record { path = subst IsSome given.path_is refl; key = subst IsSome given.key_is refl; old = subst IsSome given.old_is refl; new = subst IsSome given.new_is refl }
-
-pub returns-in-swap-clause-named : goal.returns-in-swap-clause-named
-returns-in-swap-clause-named c =
-    IfOk-weaker c.swap_job.result _ _ (λ job is asked met.
-    let given = swaps asked c.in-Some.own.now (own_of c.args.matches.now c.in-Some.command.now c.in-Some.own.now _ c.in-Some.ensures.name c.in-Some.ensures.rows c.in-swap.is asked met) in
-    job_is asked _ given.asked_is ∙ is given.path given.key given.old given.new given.path_is given.key_is given.old_is given.new_is) c.swap_job.ensures.named
-
-pub returns-in-swap-clause-wrong : goal.returns-in-swap-clause-wrong
-returns-in-swap-clause-wrong c =
-    IfErr-weaker c.swap_job.result _ _ (λ fault none wrong asked met.
-    let given = swaps asked c.in-Some.own.now (own_of c.args.matches.now c.in-Some.command.now c.in-Some.own.now _ c.in-Some.ensures.name c.in-Some.ensures.rows c.in-swap.is asked met) in
-    job_is asked _ given.asked_is ∙ none wrong given.path given.key given.old given.new given.key_is given.old_is given.new_is) c.swap_job.ensures.wrong
+    is_command c.requires.0 c.in-Some.command.now c.in-Some.own.now own c.in_default-command.not-serve c.in_default-command.not-check c.in_default-command.not-dump c.in_default-command.not-load c.in_default-command.not-storm c.in_default-command.not-pairs c.in_default-command.not-convert c.in_default-command.not-version c.in_default-command.not-manual
 
 pub pairs_job-requires : goal.pairs_job-requires
 pairs_job-requires c =
@@ -190,64 +118,11 @@ returns-in-load-clause-limits c = c.load_job.ensures.limits
 pub returns-in-storm-clause-limits : goal.returns-in-storm-clause-limits
 returns-in-storm-clause-limits c = c.storm_job.ensures.limits
 
-pub returns-in-get-clause-limits : goal.returns-in-get-clause-limits
-returns-in-get-clause-limits c = c.get_job.ensures.limits
-
-pub returns-in-put-clause-limits : goal.returns-in-put-clause-limits
-returns-in-put-clause-limits c = c.put_job.ensures.limits
-
-pub returns-in-del-clause-limits : goal.returns-in-del-clause-limits
-returns-in-del-clause-limits c = c.del_job.ensures.limits
-
-pub returns-in-swap-clause-limits : goal.returns-in-swap-clause-limits
-returns-in-swap-clause-limits c = c.swap_job.ensures.limits
-
 pub returns-in-pairs-clause-limits : goal.returns-in-pairs-clause-limits
 returns-in-pairs-clause-limits c = c.pairs_job.ensures.limits
 
 pub returns-in-convert-clause-limits : goal.returns-in-convert-clause-limits
 returns-in-convert-clause-limits c = c.convert_job.ensures.limits
-
-pub create_job-requires : goal.create_job-requires
-create_job-requires c =
-    let given = creates c.requires.0 c.in-Some.own.now (own_of c.args.matches.now c.in-Some.command.now c.in-Some.own.now _ c.in-Some.ensures.name c.in-Some.ensures.rows c.in-create.is c.requires.0 c.requires.1) in
-    record { path = subst IsSome given.path_is refl }
-
-pub returns-in-create-clause-named : goal.returns-in-create-clause-named
-returns-in-create-clause-named c =
-    IfOk-weaker c.create_job.result _ _ (λ job is asked met.
-    let given = creates asked c.in-Some.own.now (own_of c.args.matches.now c.in-Some.command.now c.in-Some.own.now _ c.in-Some.ensures.name c.in-Some.ensures.rows c.in-create.is asked met) in
-    job_is asked _ given.asked_is ∙ is given.path given.path_is) c.create_job.ensures.named
-
-pub returns-in-create-clause-wrong : goal.returns-in-create-clause-wrong
-returns-in-create-clause-wrong c =
-    IfErr-weaker c.create_job.result _ _ (λ fault none wrong asked met.
-    let given = creates asked c.in-Some.own.now (own_of c.args.matches.now c.in-Some.command.now c.in-Some.own.now _ c.in-Some.ensures.name c.in-Some.ensures.rows c.in-create.is asked met) in
-    job_is asked _ given.asked_is ∙ none wrong given.path) c.create_job.ensures.wrong
-
-pub returns-in-create-clause-limits : goal.returns-in-create-clause-limits
-returns-in-create-clause-limits c = c.create_job.ensures.limits
-
-pub path_in-requires-in-backup : goal.path_in-requires-in-backup
-path_in-requires-in-backup c =
-    let given = backups c.requires.0 c.in-Some.own.now (own_of c.args.matches.now c.in-Some.command.now c.in-Some.own.now _ c.in-Some.ensures.name c.in-Some.ensures.rows c.in-backup.is c.requires.0 c.requires.1) in
-    subst IsSome given.path_is refl
-
-pub new_path_in-requires : goal.new_path_in-requires
-new_path_in-requires c =
-    let given = backups c.requires.0 c.in-Some.own.now (own_of c.args.matches.now c.in-Some.command.now c.in-Some.own.now _ c.in-Some.ensures.name c.in-Some.ensures.rows c.in-backup.is c.requires.0 c.requires.1) in
-    subst IsSome given.new_is refl
-
-pub returns-in-backup-clause-named : goal.returns-in-backup-clause-named
-returns-in-backup-clause-named c = λ asked met.
-    let given = backups asked c.in-Some.own.now (own_of c.args.matches.now c.in-Some.command.now c.in-Some.own.now _ c.in-Some.ensures.name c.in-Some.ensures.rows c.in-backup.is asked met) in
-    job_is asked _ given.asked_is ∙ ap₂ (λ path new. Some (Copying path new)) (some_is (given.path_is ∙ sym c.path_in-in-backup.ensures)) (some_is (given.new_is ∙ sym c.new_path_in.ensures))
-
-pub returns-in-backup-clause-limits : goal.returns-in-backup-clause-limits
-returns-in-backup-clause-limits c = tt
-
-pub returns-in-backup-clause-wrong : goal.returns-in-backup-clause-wrong
-returns-in-backup-clause-wrong c = tt
 
 pub returns-in-version-clause-named : goal.returns-in-version-clause-named
 returns-in-version-clause-named c = λ asked met. job_is asked _ (versions asked c.in-Some.own.now (own_of c.args.matches.now c.in-Some.command.now c.in-Some.own.now _ c.in-Some.ensures.name c.in-Some.ensures.rows c.in-version.is asked met))

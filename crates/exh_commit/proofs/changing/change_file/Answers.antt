@@ -1,10 +1,11 @@
-use Rattle.std.proofs.Common.{◌≡◌, ℕ, List, sym, subst, inl}
+use Rattle.std.proofs.Common.{◌≡◌, ℕ, List, IsTrue, sym, ◌∙◌, subst, inl}
 use Rattle.sqlite_wal.specs.Files.{seen_image}
-use Rattle.exh_commit.specs.Change.{IsChanged, IsOldOrChanged, IsSaved, IsUnchanged, MayChange}
+use Rattle.exh_commit.specs.Change.{IsCause, IsChanged, IsOldOrChanged, IsSaved, IsUnchanged, MayChange}
 use Rattle.exh_commit.specs.FilePages.{Leaves, LeavesAlone, StandsFor}
 use Rattle.exh_commit.specs.PagedFile.{bytes_in, files_in}
 use Rattle.exh_commit.proofs.ChangeLemmas.{alone_more, found_leaves, if_err_more, if_ok_more, leaves_more}
 use Rattle.exh_commit.proofs.ImageLemmas.{stands_once}
+use Rattle.exh_commit.proofs.KnownLemmas.{honest}
 use Rattle.exh_commit.proofs.changing.change_file.Goals as goal
 
 pub returns-in-Err-clause-crash : goal.returns-in-Err-clause-crash
@@ -60,3 +61,13 @@ returns-clause-saved g c =
     (λ clean bytes. subst (λ was. P was bytes) (stands_once (seen_image g.D.Disk c.args.files.log c.args.files.db) (bytes_in c.in-Ok.file) old (c.in-Ok.ensures.found (c.change-answer.ensures.honest clean)) found))
     (leaves saved)))
     c.change-answer.ensures.saved
+
+pub returns-clause-cause : goal.returns-clause-cause
+returns-clause-cause g c =
+    let it = c.in-Ok.file in
+    let T = g.D.Truthful.is_truthful in
+    let P : List ℕ → _ → Type 0 = IsCause (g.C.Changer.allows c.args.changer.now) (g.C.Changer.refuses c.args.changer.now) in
+    if_err_more c.change-answer.result.0 (λ fault. IsTrue T → P (bytes_in it) fault)
+    (λ fault. IsTrue T → (old : List ℕ) → StandsFor (seen_image g.D.Disk c.args.files.log c.args.files.db) old → P old fault)
+    (λ fault cause truth old found. subst (λ (was : List ℕ). P was fault) (c.in-Ok.ensures.one (honest it (g.met.D.Truthful.tells_truth truth)) old found) (cause truth))
+    c.change-answer.ensures.cause

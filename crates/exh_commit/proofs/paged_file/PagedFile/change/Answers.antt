@@ -1,8 +1,9 @@
-use Rattle.std.proofs.Common.{◌≡◌, ◌∙◌, subst, inl, inr}
+use Rattle.std.proofs.Common.{◌≡◌, ◌/◌, ℕ, List, length, ◌∙◌, ap, subst, inl, inr}
 use Rattle.exh_commit.specs.Change.{IsChanged, IsOldOrChanged, MayChange}
 use Rattle.exh_commit.specs.FilePages.{Leaves}
 use Rattle.exh_commit.specs.PagedFile.{IsOldOrEdited, bytes_in, files_in}
-use Rattle.exh_commit.proofs.ChangeLemmas.{alone_more, changed, leaves_more}
+use Rattle.exh_commit.proofs.ChangeLemmas.{alone_more, changed, commit_cause, known_gives, leaves_more}
+use Rattle.exh_commit.proofs.KnownLemmas.{counted_blocks, honest}
 use Rattle.exh_commit.proofs.ImageLemmas.{ready_leaves}
 use Rattle.exh_commit.proofs.paged_file.PagedFile.change.Goals as goal
 
@@ -18,7 +19,21 @@ returns-in-Err-clause-crash g c =
     let mid = c.ask-made.result.1 in
     ready_leaves mid.pager (IsOldOrChanged g.D.Truthful.is_truthful (g.C.Changer.allows c.args.changer.now) (bytes_in c.args.self)) (c.ask-made.ensures.ready ∙ c.requires) mid.sized mid.seen g.met.D.Disk.seen_may_stay (λ is_open. inl c.ask-made.ensures.bytes)
 
+pub returns-in-Err-clause-cause : goal.returns-in-Err-clause-cause
+returns-in-Err-clause-cause g c truth =
+    let refused = rw c.in-Err.is at c.ask-made.ensures.refused in
+    known_gives g.D.Truthful.is_truthful c.args.self (λ bytes. g.C.Changer.refuses c.args.changer.now bytes c.in-Err.fault) truth c.requires refused
+
 -- ---- the edits weren't committed
+
+pub returns-in-Err-commit-clause-cause : goal.returns-in-Err-commit-clause-cause
+returns-in-Err-commit-clause-cause g c truth =
+    let mid = c.ask-made.result.1 in
+    let Allows = g.C.Changer.allows c.args.changer.now in
+    let made = c.in-Ok.made in
+    let allowed = known_gives g.D.Truthful.is_truthful c.args.self (λ bytes. Allows bytes made.0 made.1.items) truth c.requires (rw c.in-Ok.is at c.ask-made.ensures.made) in
+    let counted = counted_blocks mid (c.ask-made.ensures.ready ∙ c.requires) (honest mid (g.met.D.Truthful.tells_truth truth)) ∙ ap (λ (bytes : List ℕ). length bytes / 4096) c.ask-made.ensures.bytes in
+    commit_cause Allows (g.C.Changer.refuses c.args.changer.now) (bytes_in c.args.self) made.0 made.1.items c.deref.result.now mid.pager.count c.in-Err-commit.fault allowed c.deref.ensures.value counted c.in-Err-commit.ensures.cause
 
 pub returns-in-Err-commit-clause-unchanged : goal.returns-in-Err-commit-clause-unchanged
 returns-in-Err-commit-clause-unchanged g c unchanged =

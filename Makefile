@@ -1,0 +1,50 @@
+# Builds, checks and installs the program exhash. `make` alone lists what can be made.
+#
+#   PREFIX    where install puts things, /usr/local if left out
+#   DESTDIR   a folder before PREFIX, for who makes packages
+#   PROGRAM   a program that is built already, in place of a build
+
+PREFIX ?= /usr/local
+DESTDIR ?=
+PROGRAM ?=
+
+BUILT := $(if $(PROGRAM),$(PROGRAM),crates/exh_cli/out/exh_cli)
+INTO := $(DESTDIR)$(PREFIX)
+INSTALLED := bin/exhash share/man/man1/exhash.1 share/bash-completion/completions/exhash
+
+.PHONY: help build check try install uninstall bench dist
+
+help:
+	@echo 'make build                   proves the program, and builds it'
+	@echo 'make check                   the gate: proves all, tries wrong bodies, runs every case'
+	@echo 'make try                     runs the program on an example, with nothing proved'
+	@echo 'make install PREFIX=FOLDER   program, manual page and completions, below /usr/local if no PREFIX is given'
+	@echo 'make uninstall PREFIX=FOLDER removes them'
+	@echo 'make bench                   every measure of bench/, one after the other (hours)'
+	@echo 'make dist                    dist/exhash-VERSION-COMMIT-LIBC.tar.gz of what install puts'
+
+build:
+ifeq ($(PROGRAM),)
+	@./exhash version > /dev/null
+endif
+
+check:
+	.ci/run
+
+try:
+	tools/try check examples/three-pairs.files/three-pairs.exh
+
+install: build
+	install -d $(dir $(INSTALLED:%=$(INTO)/%))
+	install -m 755 $(BUILT) $(INTO)/bin/exhash
+	install -m 644 docs/exhash.1 $(INTO)/share/man/man1/exhash.1
+	install -m 644 completions/exhash.bash $(INTO)/share/bash-completion/completions/exhash
+
+uninstall:
+	rm -f $(INSTALLED:%=$(INTO)/%)
+
+bench: build
+	for script in bench/*.sh; do echo "== $$script"; $$script; done
+
+dist: build
+	tools/dist $(BUILT)

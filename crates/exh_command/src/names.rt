@@ -1,0 +1,115 @@
+//! The words of the command line: commands, options, flags, and what help calls other words.
+
+/// The command that makes a page file without pairs.
+pub(crate) const CREATE: &str = "create";
+
+/// The command that prints the value of a key.
+pub(crate) const GET: &str = "get";
+
+/// The command that gives a key a value.
+pub(crate) const PUT: &str = "put";
+
+/// The command that takes a key out.
+pub(crate) const DEL: &str = "del";
+
+/// The command that gives a key another value, where it has the one that is named.
+pub(crate) const SWAP: &str = "swap";
+
+/// The command that copies a page file.
+pub(crate) const BACKUP: &str = "backup";
+
+/// The command that says whether a file is a legal page file.
+pub(crate) const CHECK: &str = "check";
+
+/// The command that tells what a legal page file has.
+pub(crate) const DUMP: &str = "dump";
+
+/// The command that prints pairs as the text that `load` takes.
+pub(crate) const PAIRS: &str = "pairs";
+
+/// The command that saves pairs as a page file.
+pub(crate) const LOAD: &str = "load";
+
+/// The command that writes a page file as one of a version that is named.
+pub(crate) const CONVERT: &str = "convert";
+
+/// The command that answers a script.
+pub(crate) const SERVE: &str = "serve";
+
+/// The command that runs callers, keepers and couriers at once.
+pub(crate) const STORM: &str = "storm";
+
+/// The option of `convert` that names the version of the new page file, and the command that prints the program's.
+pub(crate) const VERSION: &str = "version";
+
+/// The command that prints what help says.
+pub(crate) const MANUAL: &str = "manual";
+
+/// The flag of `load` of a text of any length.
+pub(crate) const LONG: &str = "long";
+
+/// The flag of `load` of pairs that are put into the file that is there.
+pub(crate) const INTO: &str = "into";
+
+/// What help calls the path of the file that a command is about.
+pub(crate) const PATH: &str = "PATH";
+
+/// What help calls the path of a new page file.
+pub(crate) const NEW: &str = "NEW";
+
+/// What help calls the command of which the manual tells.
+pub(crate) const COMMAND: &str = "COMMAND";
+
+/// The option of `serve` that names the page file to open.
+pub(crate) const OPEN: &str = "open";
+
+/// The option of `serve` that names where the wards that a run leaves are saved.
+pub(crate) const SAVE: &str = "save";
+
+/// The option of `storm` that tells how many callers there are.
+pub(crate) const CALLERS: &str = "callers";
+
+/// The option of `storm` that tells how many calls each caller makes.
+pub(crate) const CALLS: &str = "calls";
+
+/// The option of `storm`, `pairs` and `create` that tells how many records a page may have.
+pub(crate) const CAP: &str = "cap";
+
+/// The option of `storm`, `pairs` and `create` that tells by how many bits the file is cut into wards.
+pub(crate) const WARDS: &str = "wards";
+
+/// The option of `storm` that tells how many copies of the directory there are.
+pub(crate) const COPIES: &str = "copies";
+
+/// The option of `pairs` and of `create` that names a keyer.
+pub(crate) const KEYER: &str = "keyer";
+
+/// The option of the everyday commands that tells how long another process is waited for.
+pub(crate) const WAIT: &str = "wait";
+
+/// The flag of the everyday commands by which keys and values are hexadecimal.
+pub(crate) const HEX: &str = "hex";
+
+/// The flag of `get` and of `put` by which a value has no newline behind it.
+pub(crate) const RAW: &str = "raw";
+
+/// The flag of `put` that gives only a key without a value one.
+pub(crate) const NEW_FLAG: &str = "new";
+
+/// The flag of `put` that gives only a key with a value one.
+pub(crate) const REPLACE: &str = "replace";
+
+/// The option of `get` and of `del` by which keys stand on standard input.
+pub(crate) const FROM: &str = "from";
+
+/// What help calls a number.
+pub(crate) const NUMBER: &str = "N";
+
+/// What help calls a keyer.
+pub(crate) const KEYER_NAME: &str = "K";
+
+/// The name under which the program tells of itself.
+pub(crate) const PROGRAM: &str = "exhash";
+
+/// The option that asks for help.
+pub(crate) const HELP: &str = "--help";

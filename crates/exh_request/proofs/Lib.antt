@@ -1,0 +1,5 @@
+pub mod Causes
+pub mod Lines
+pub mod Paths
+pub mod Places
+pub mod Repeats

@@ -1,0 +1,101 @@
+-- What the options of a command say.
+use Rattle.std.specs.Prelude.{◌&&◌, ℕ, Bool, true, false, List, [], ◌∷◌, leb, nat_lt, count_by, Option, Some, None, is_some, Result, Ok, Err, codes, if◌then◌else◌}
+use Rattle.std.specs.Str.{bytes_eq}
+use Rattle.exh_keyer.specs.declared.any_keyer.AnyKeyer.{AnyKeyer}
+use Rattle.exh_keyer.specs.declared.any_keyer.AnyKeyer.TheVariants.{Sha}
+use Rattle.exh_page.specs.declared.page.TheConstants.{CAP_LIMIT}
+use Rattle.exh_prefix.specs.declared.prefix.TheConstants.{WARD_BITS_LIMIT}
+use Rattle.exh_settings.specs.Keyers.{keyer_named}
+use Rattle.exh_settings.specs.declared.file_settings.FileSettings.{FileSettings}
+use Rattle.exh_text.specs.Numbers.{number_spelled}
+use Rattle.exh_request.specs.declared.command_option.CommandOption.{CommandOption}
+use Rattle.exh_request.specs.declared.command_option.CommandOption.TheVariants.{Cap, From, Hex, Keyer, New, Raw, Replace, Wait, Wards}
+use Rattle.exh_request.specs.declared.options.Options.{Options}
+use Rattle.exh_request.specs.declared.options.TheConstants.{USUAL_WAIT, WAIT_LIMIT}
+use Rattle.exh_request.specs.declared.put_when.PutWhen.{PutWhen}
+use Rattle.exh_request.specs.declared.put_when.PutWhen.TheVariants as put
+use Rattle.exh_request.specs.declared.wrong_request.WrongCause.{WrongCause}
+use Rattle.exh_request.specs.declared.wrong_request.WrongCause.TheVariants.{BadValue, NewAndReplace, Twice}
+use Rattle.exh_request.specs.Causes.{◌>>=◌}
+use Rattle.exh_request.specs.Commands.{is_same_option}
+use Rattle.exh_request.specs.Line.{UsedOption}
+
+-- ---- the uses of an option
+
+abbrev pub is_of : CommandOption → UsedOption → Bool
+is_of option one = is_same_option one.option option
+
+-- the value of its first use
+abbrev pub value_given : CommandOption → List UsedOption → Option (List ℕ)
+value_given option [] = None
+value_given option (one ∷ rest) = if is_of option one then Some one.value else value_given option rest
+
+abbrev pub is_used : CommandOption → List UsedOption → Bool
+is_used option uses = is_some (value_given option uses)
+
+-- the first of some options that is used twice among all
+abbrev pub repeated_of : List UsedOption → List UsedOption → Option CommandOption
+repeated_of all [] = None
+repeated_of all (one ∷ rest) = if nat_lt 1 (count_by (is_of one.option) all) then Some one.option else repeated_of all rest
+
+abbrev pub repeated : List UsedOption → Option CommandOption
+repeated uses = repeated_of uses uses
+
+-- ---- what one says, or what holds where it isn't used
+
+-- a number from the least to the greatest
+abbrev pub number_by : CommandOption → ℕ → ℕ → Option ℕ → Result ℕ WrongCause
+number_by option least greatest None = Err (BadValue option)
+number_by option least greatest (Some number) = if leb least number && leb number greatest then Ok number else Err (BadValue option)
+
+abbrev pub number_of_word : CommandOption → ℕ → ℕ → ℕ → Option (List ℕ) → Result ℕ WrongCause
+number_of_word option usual least greatest None = Ok usual
+number_of_word option usual least greatest (Some word) = number_by option least greatest (number_spelled word)
+
+abbrev pub number_asked : CommandOption → ℕ → ℕ → ℕ → List UsedOption → Result ℕ WrongCause
+number_asked option usual least greatest uses = number_of_word option usual least greatest (value_given option uses)
+
+abbrev pub keyer_by : Option AnyKeyer → Result AnyKeyer WrongCause
+keyer_by None = Err (BadValue Keyer)
+keyer_by (Some keyer) = Ok keyer
+
+abbrev pub keyer_of_word : Option (List ℕ) → Result AnyKeyer WrongCause
+keyer_of_word None = Ok Sha
+keyer_of_word (Some word) = keyer_by (keyer_named word)
+
+abbrev pub settings_asked : List UsedOption → Result (FileSettings AnyKeyer) WrongCause
+settings_asked uses = do
+  cap ← number_asked Cap 16 1 CAP_LIMIT uses
+  wards ← number_asked Wards 0 0 WARD_BITS_LIMIT uses
+  keyer ← keyer_of_word (value_given Keyer uses)
+  Ok (record { cap = cap; ward_bits = wards; keyer = keyer })
+
+-- the keys stand on standard input, which is named `-`
+abbrev pub from_word : Option (List ℕ) → Result Bool WrongCause
+from_word None = Ok false
+from_word (Some word) = if bytes_eq word (codes "-") then Ok true else Err (BadValue From)
+
+-- where a put is done
+abbrev pub when_by : Bool → Bool → Result PutWhen WrongCause
+when_by false false = Ok put.Always
+when_by true false = Ok put.New
+when_by false true = Ok put.There
+when_by true true = Err NewAndReplace
+
+-- ---- all of them
+
+abbrev pub options_by : List UsedOption → Result Options WrongCause
+options_by uses = do
+  wait ← number_asked Wait USUAL_WAIT 0 WAIT_LIMIT uses
+  settings ← settings_asked uses
+  is_from ← from_word (value_given From uses)
+  when ← when_by (is_used New uses) (is_used Replace uses)
+  Ok (record { wait = wait; form = record { is_hex = is_used Hex uses; is_raw = is_used Raw uses }; when = when; is_from = is_from; settings = settings })
+
+-- each option is used at most once
+abbrev pub once : Option CommandOption → Result Options WrongCause → Result Options WrongCause
+once None options = options
+once (Some option) options = Err (Twice option)
+
+abbrev pub options_asked : List UsedOption → Result Options WrongCause
+options_asked uses = once (repeated uses) (options_by uses)

@@ -1,0 +1,100 @@
+//! The options of the everyday commands.
+ghost use Rattle.std.specs.Prelude.{◌≡◌};
+ghost use Rattle.exh_request.specs.Commands.{has_value, is_same_option, option_named};
+
+use crate::word::is_word;
+
+/// An option of an everyday command.
+#[derive(Clone, Copy, Debug)]
+pub enum CommandOption {
+    Wait,
+    Hex,
+    Raw,
+    New,
+    Replace,
+    From,
+    Cap,
+    Wards,
+    Keyer,
+}
+
+impl CommandOption {
+    /// Its word, behind the two dashes.
+    pub fn name(self) -> &'static str {
+        match self {
+            CommandOption::Wait => "wait",
+            CommandOption::Hex => "hex",
+            CommandOption::Raw => "raw",
+            CommandOption::New => "new",
+            CommandOption::Replace => "replace",
+            CommandOption::From => "from",
+            CommandOption::Cap => "cap",
+            CommandOption::Wards => "wards",
+            CommandOption::Keyer => "keyer",
+        }
+    }
+
+    /// What its value is to be.
+    pub fn wanted(self) -> &'static str {
+        match self {
+            CommandOption::Wait => "a number of seconds from 0 to 86400",
+            CommandOption::From => "`-`, which is standard input",
+            CommandOption::Cap => "a number from 1 to 16",
+            CommandOption::Wards => "a number from 0 to 4",
+            CommandOption::Keyer => "`sha` or `plain`",
+            CommandOption::Hex | CommandOption::Raw | CommandOption::New | CommandOption::Replace =>
+                "no value",
+        }
+    }
+
+    /// The option of a name, without the dashes.
+    pub(crate) fn named(name: &[u8]) -> Option<CommandOption>
+        ensures { result ≡ option_named name.now }
+    {
+        match name {
+            _ if is_word(name, "replace") => Some(CommandOption::Replace),
+            b"wait" => Some(CommandOption::Wait),
+            b"hex" => Some(CommandOption::Hex),
+            b"raw" => Some(CommandOption::Raw),
+            b"new" => Some(CommandOption::New),
+            b"from" => Some(CommandOption::From),
+            b"cap" => Some(CommandOption::Cap),
+            b"wards" => Some(CommandOption::Wards),
+            b"keyer" => Some(CommandOption::Keyer),
+            _ => None,
+        }
+    }
+
+    /// Whether a value belongs to it.
+    pub(crate) fn has_value(self) -> bool
+        ensures { result ≡ has_value self }
+    {
+        match self {
+            CommandOption::Wait
+            | CommandOption::From
+            | CommandOption::Cap
+            | CommandOption::Wards
+            | CommandOption::Keyer => true,
+            CommandOption::Hex | CommandOption::Raw | CommandOption::New | CommandOption::Replace =>
+                false,
+        }
+    }
+
+    /// Whether this is the other option.
+    pub(crate) fn is(self, other: CommandOption) -> bool
+        ensures { result ≡ is_same_option self other }
+    {
+        match (self, other) {
+            (CommandOption::Wait, CommandOption::Wait)
+            | (CommandOption::Hex, CommandOption::Hex)
+            | (CommandOption::Raw, CommandOption::Raw)
+            | (CommandOption::New, CommandOption::New)
+            | (CommandOption::Replace, CommandOption::Replace)
+            | (CommandOption::From, CommandOption::From)
+            | (CommandOption::Cap, CommandOption::Cap)
+            | (CommandOption::Wards, CommandOption::Wards)
+            | (CommandOption::Keyer, CommandOption::Keyer) => true,
+            _ => false,
+        }
+    }
+}

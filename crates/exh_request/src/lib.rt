@@ -1,0 +1,36 @@
+//! What the words of an everyday command ask for: a request, or what is wrong with them.
+#![tactic(auto)]
+
+pub use action::Action;
+pub use asking::{help_asked, request_of};
+pub use command_option::CommandOption;
+pub use everyday_command::EverydayCommand;
+pub use fault::RequestFault;
+pub use form::Form;
+pub use keys::Keys;
+pub use new_value::NewValue;
+pub use options::{USUAL_WAIT, WAIT_LIMIT};
+pub use place::Place;
+pub use put_when::PutWhen;
+pub use request::Request;
+pub use words::words_of;
+pub use wrong_request::{WrongCause, WrongRequest};
+
+mod action;
+mod argument;
+mod asking;
+mod cause_or_memory;
+mod command_option;
+mod everyday_command;
+mod fault;
+mod form;
+mod keys;
+mod line;
+mod new_value;
+mod options;
+mod place;
+mod put_when;
+mod request;
+mod word;
+mod words;
+mod wrong_request;

@@ -1,0 +1,34 @@
+//! The program's own words.
+
+use std::alloc::AllocError;
+use std::env::{Env, FillError};
+
+/// The words that the program was started with, its own name first, as their bytes. An `AllocError` where memory is
+/// refused.
+pub fn words_of(rt: &(impl Env + AllocGlobal)) -> Result<Vec<Vec<u8>>, AllocError> {
+    let mut words = Vec::new(rt.alloc());
+    for index in 0..usize::MAX {
+        match word_at(rt, index)? {
+            Some(word) => words.push(word)?,
+            None => break,
+        }
+    }
+    Ok(words)
+}
+
+// The word of an index, `None` behind the last. Its room is doubled until it fits.
+fn word_at(rt: &(impl Env + AllocGlobal), index: usize) -> Result<Option<Vec<u8>>, AllocError> {
+    let mut room: usize = 256;
+    for _ in 0..usize::BITS {
+        let mut word = vec![in rt.alloc(); 0u8; room]?;
+        match rt.arg(index, word.as_mut_slice()) {
+            Ok(length) => {
+                word.truncate(length);
+                return Ok(Some(word));
+            }
+            Err(FillError::NotPresent) => return Ok(None),
+            Err(FillError::TooLong) => room = room.saturating_mul(2),
+        }
+    }
+    Err(AllocError)
+}
