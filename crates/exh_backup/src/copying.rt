@@ -16,10 +16,10 @@ use std::{fs, io};
 /// Copies the page file of a path, of any version, byte for byte to a new path at which nothing is: all of one state, also
 /// beside others that change it. They are kept out for up to five seconds; where one has the writers' lock all the while, as an
 /// open store does, the file is read until all of it is one state. The copy is written beside the new path, and linked there
-/// once all of it is on the disk. Where its folder can't be synchronized a fault of the machine may take it away.
+/// once all of it is on the disk.
 ///
-/// `Copy(Exists)`: something is at the new path. `Copy(Busy)`: another process is at work there. Others: as they say. Nothing is
-/// left at the new path.
+/// `Copy(Unsynchronized)`: it is copied, but a power failure may take the copy away. `Copy(Exists)`: something is at the new path.
+/// `Copy(Busy)`: another process is at work there. Others: as they say. Of these nothing is left at the new path.
 pub fn backup(rt: &HostRuntime, path: &str, new: &str) -> Result<(), BackupFault> {
     backup_within(rt, path, new, WAIT)
 }
@@ -42,10 +42,10 @@ pub fn backup_within(
     };
     match fill(rt, path, &source, beside.file(), seconds) {
         Ok(()) => match beside.place(rt, new) {
-            Ok(()) => {
-                let _ = synchronize_folder(rt, new);
-                Ok(())
-            }
+            Ok(()) => match synchronize_folder(rt, new) {
+                Ok(()) => Ok(()),
+                Err(error) => Err(BackupFault::Copy(StoreError::Unsynchronized(error))),
+            },
             Err(fault) => Err(BackupFault::Copy(fault)),
         },
         Err(fault) => {

@@ -18,8 +18,10 @@ abbrev pub change_status : StoreError → Status
 change_status fault.Busy = Busy
 change_status other = Refused
 
--- no file is made at a path: something is there already, or another process is at work there
+-- no file is made at a path: something is there already, or another process is at work there; or it is made, and its folder
+-- isn't synchronized
 abbrev pub unmade_status : StoreError → Status
+unmade_status (fault.Unsynchronized error) = Done
 unmade_status fault.Exists = Missing
 unmade_status fault.Busy = Busy
 unmade_status other = Refused

@@ -31,7 +31,7 @@ fn unread(run: &Run<'_>, fault: BackupFault) -> BackupFault {
     }
 }
 
-// The status where there is no copy.
+// The status where there is no copy, or its folder isn't synchronized.
 fn backup_status(fault: &BackupFault) -> Status
     ensures { result ≡ backup_status fault.now }
 {
@@ -39,6 +39,7 @@ fn backup_status(fault: &BackupFault) -> Status
         BackupFault::File(StoreError::Busy | StoreError::Changed) => Status::Busy,
         BackupFault::Copy(StoreError::Busy) => Status::Busy,
         BackupFault::Copy(StoreError::Exists) => Status::Missing,
+        BackupFault::Copy(StoreError::Unsynchronized(_)) => Status::Done,
         _ => Status::Refused,
     }
 }

@@ -4,6 +4,7 @@ use crate::answer::Answer;
 use crate::printing::tell_answer;
 use crate::refusal::refuse_change;
 use crate::run::Run;
+use crate::saving::save;
 use exh_answer::Status;
 use exh_page::{Key, Value};
 use exhash::{Direct, Store, StoreError};
@@ -68,7 +69,7 @@ fn answer_in_place(file: &Direct<'_>, change: &Change) -> Result<Answer, StoreEr
 fn answer_whole(run: &Run<'_>, change: &Change) -> Result<Answer, StoreError> {
     let mut store = Store::open_within(run.rt, run.path, run.seconds)?;
     let answer = answer_in_memory(&mut store, change)?;
-    store.commit()?;
+    save(run, store)?;
     Ok(answer)
 }
 

@@ -70,7 +70,7 @@ fn made_status(made: &Result<(), StoreError>) -> Status
     ensures { result ≡ made_status made.now }
 {
     match made {
-        Ok(()) => Status::Done,
+        Ok(()) | Err(StoreError::Unsynchronized(_)) => Status::Done,
         Err(StoreError::Exists) => Status::Missing,
         Err(StoreError::Busy) => Status::Busy,
         Err(_) => Status::Refused,

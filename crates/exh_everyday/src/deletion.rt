@@ -6,6 +6,7 @@ use crate::input::input_keys;
 use crate::printing::tell_lines;
 use crate::refusal::refuse_change;
 use crate::run::Run;
+use crate::saving::save;
 use exh_answer::Status;
 use exh_page::Key;
 use exh_request::Keys;
@@ -42,6 +43,6 @@ fn taken_out(run: &Run<'_>, keys: &[Key]) -> Result<Found, StoreError> {
         let was = store.remove(key.as_bytes())?;
         found.push(key, was)?;
     }
-    store.commit()?;
+    save(run, store)?;
     Ok(found)
 }

@@ -17,5 +17,6 @@ mod performing;
 mod printing;
 mod refusal;
 mod run;
+mod saving;
 mod shown;
 mod wrong_input;

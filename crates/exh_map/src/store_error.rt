@@ -94,6 +94,9 @@ pub enum StoreError {
     /// The change was saved, but the store has its file no longer.
     #[error("it is saved, but can't be opened again: {0} (refused 41)")]
     Unheld(io::Error),
+    /// It was saved, but its folder couldn't be synchronized: a power failure may take that back.
+    #[error("it is saved, but its folder isn't synchronized: {0}")]
+    Unsynchronized(io::Error),
     /// A page couldn't be reached. The stores of the program reach every page.
     #[error("a page is out of reach (refused 11)")]
     OutOfReach,

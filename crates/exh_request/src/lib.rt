@@ -13,7 +13,7 @@ pub use options::{USUAL_WAIT, WAIT_LIMIT};
 pub use place::Place;
 pub use put_when::PutWhen;
 pub use request::Request;
-pub use words::words_of;
+pub use words::{command_called, words_of};
 pub use wrong_request::{WrongCause, WrongRequest};
 
 mod action;

@@ -1,7 +1,11 @@
 //! The program's own words.
 
+use crate::EverydayCommand;
 use std::alloc::AllocError;
 use std::env::{Env, FillError};
+
+// No everyday command has a longer name.
+const LONGEST_NAME: usize = 8;
 
 /// The words that the program was started with, its own name first, as their bytes. An `AllocError` where memory is
 /// refused.
@@ -14,6 +18,13 @@ pub fn words_of(rt: &(impl Env + AllocGlobal)) -> Result<Vec<Vec<u8>>, AllocErro
         }
     }
     Ok(words)
+}
+
+/// The everyday command that the program was started with, read without memory; `None` where it is none.
+pub fn command_called(rt: &impl Env) -> Option<EverydayCommand> {
+    let mut word = [0u8; LONGEST_NAME];
+    let length = rt.arg(1, word.as_mut_slice()).ok()?;
+    EverydayCommand::named(word.get(..length)?)
 }
 
 // The word of an index, `None` behind the last. Its room is doubled until it fits.

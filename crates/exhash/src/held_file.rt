@@ -4,7 +4,7 @@ ghost use Rattle.exh_file.specs.Opened.{AreWardsOf, settings_in};
 ghost use Rattle.exh_map.specs.FileMap.{KeepsMap};
 
 use crate::drafting::drafted;
-use crate::new_file::save_draft;
+use crate::new_file::{save_draft, synchronized};
 use crate::reading::read_whole;
 use exh_backup::opened_at;
 use exh_file::{Draft, FileForm, Opened, PlacedForm, Stamps};
@@ -27,7 +27,7 @@ pub(crate) struct HeldFile {
     path: String,
     seen: OpenedFile,
     // Its lock, where it came of a save of its own.
-    lock: Option<Saved<SystemFile>>,
+    lock: Option<SystemFile>,
     form: FileForm,
 }
 
@@ -76,7 +76,7 @@ impl HeldFile {
     /// Saves a map as the file: of version 3 the blocks that differ, of another the whole file.
     ///
     /// `Vanished`: it is no longer at its path. `Changed`: another process changed it all the same. `Unsure`: it may be saved.
-    /// `Unheld`: it is saved, but no longer held.
+    /// `Unheld`: it is saved, but no longer held. `Unsynchronized`: it is saved, but a power failure may take it back.
     pub(crate) fn save(
         &mut self,
         rt: &HostRuntime,
@@ -110,12 +110,13 @@ impl HeldFile {
         }
         // The save takes the lock of the file that it replaces.
         self.lock = None;
-        let saved = save_draft(rt, &self.path, Some(&self.seen), Draft::plain(copy))?;
+        let Saved { file, folder } =
+            save_draft(rt, &self.path, Some(&self.seen), Draft::plain(copy))?;
         match seen_at(rt, &self.path) {
             Ok(seen) => {
                 self.seen = seen;
-                self.lock = Some(saved);
-                Ok(())
+                self.lock = file;
+                synchronized(folder)
             }
             Err(error) => Err(StoreError::Unheld(error)),
         }

@@ -1,4 +1,5 @@
 //! New page files, and those that replace others.
+ghost use Rattle.std.specs.Prelude.{◌≡◌, None, OnOk};
 
 use exh_file::{Draft, Opened, Stamps};
 use exh_frames::{FileStore, MAKER};
@@ -10,18 +11,20 @@ use exh_system::draw_stamp;
 use exh_ward::new_wards;
 use std::fs;
 use std::fs::{File, OpenOptions};
+use std::io;
 use std::io::{ErrorKind, Stderr};
 
 /// Makes a page file of version 3 without pairs at a path at which nothing is, or an empty file. Where it fails an empty
 /// file may be left.
 ///
-/// `Settings`: these are no file's. `Exists`: something is there. Others: it isn't made, as they say.
+/// `Settings`: these are no file's. `Exists`: something is there. `Unsynchronized`: it is made, but a power failure may take it
+/// away. Others: it isn't made, as they say.
 pub fn make(rt: &HostRuntime, path: &str, settings: Settings) -> Result<(), StoreError> {
     let draft = empty_draft(rt, settings)?;
     let claimed = claim(rt, path)?;
     let seen = SystemDisk::new(rt).seen(path, claimed)?;
     match save_draft(rt, path, Some(&seen), draft) {
-        Ok(_) => Ok(()),
+        Ok(saved) => synchronized(saved.folder),
         Err(StoreError::Changed) => Err(StoreError::Exists),
         Err(fault) => Err(fault),
     }
@@ -87,4 +90,14 @@ pub(crate) fn save_draft(
     let mut disk = SystemDisk::new(rt);
     let (saved, _) = save_at(rt.alloc(), &mut disk, path, seen, draft, &meter);
     Ok(saved?)
+}
+
+/// What a save came to of which this fault kept its folder from being synchronized, if one did.
+pub(crate) fn synchronized(folder: Option<io::Error>) -> Result<(), StoreError>
+    ensures { OnOk result (folder ≡ None) }
+{
+    match folder {
+        None => Ok(()),
+        Some(error) => Err(StoreError::Unsynchronized(error)),
+    }
 }

@@ -34,7 +34,8 @@ impl<'r> Store<'r> {
     /// Makes a page file of version 3 at a path, and opens it.
     ///
     /// `Exists`: something is there already that isn't empty, or another process changed the file before it was opened.
-    /// `Settings`: the settings are no file's. Others: it isn't made or opened, as they say. Then an empty file may be left.
+    /// `Settings`: the settings are no file's. `Unsynchronized`: it is made and not opened, and a power failure may take it away.
+    /// Others: it isn't made or opened, as they say. Then an empty file may be left.
     pub fn create(
         rt: &'r HostRuntime,
         path: &str,
@@ -272,8 +273,8 @@ impl<'r> Store<'r> {
     ///
     /// `ReadOnly`: the store was opened to be read. `Vanished`, `Changed`: the file is no longer the one that was opened.
     /// `Unsure`: the change is saved or not, which the next open tells, and this store commits no more. `Unheld`: it is saved,
-    /// but this store commits no more. Others: nothing was saved, as they say. The pairs of the store are as before in each
-    /// case.
+    /// but this store commits no more. `Unsynchronized`: it is saved, but a power failure may take that back; the next commit
+    /// saves it again. Others: nothing was saved, as they say. The pairs of the store are as before in each case.
     pub fn commit(&mut self) -> Result<(), StoreError>
         ensures read { IsReadOnly self.old.file → result ≡ Err ReadOnly }
         ensures kept { KeepsMap self.old.map self.new.map }
@@ -292,11 +293,14 @@ impl<'r> Store<'r> {
 
     /// Commits, and lets the file go.
     ///
-    /// Errors: as of `commit`. What wasn't saved is lost then.
+    /// Errors: as of `commit`, without `Unheld`. What wasn't saved is lost then.
     pub fn close(self) -> Result<(), StoreError>
         ensures read { IsReadOnly self.entry.file → result ≡ Err ReadOnly }
     {
         let mut store = self;
-        store.commit()
+        match store.commit() {
+            Err(StoreError::Unheld(_)) => Ok(()),
+            committed => committed,
+        }
     }
 }
