@@ -59,8 +59,10 @@ def differing(wanted, got):
     """In what a run differs, which is told in short, of standard error from the patterns of its lines; nothing where it
     doesn't."""
     text, patterns, status = wanted
-    is_right = (text, status) == (got.text, got.status) and are_like(patterns, got.error.splitlines())
-    return None if is_right else f"wanted {wanted}, got {tuple(got)}"
+    if (text, status) != (got.text, got.status):
+        return f"wanted {(text, status)}, got {(got.text, got.status)}"
+    is_right = are_like(patterns, got.error.splitlines())
+    return None if is_right else f"standard error: wanted {patterns}, got {got.error!r}"
 
 
 def difference_in(bench, content, *words):
