@@ -24,6 +24,8 @@ EMPTY_LOG = 41
 GIB = 1 << 30
 # The blocks that are left of a small file system.
 LEFT = range(9)
+# So few that a put that grows the file finds room for its log alone.
+FEW = 24
 
 
 def another_file(program):
@@ -293,6 +295,25 @@ def full_disk(program, _, alone):
             room.has_no_log()
 
 
+def full_disk_behind_the_log(program, _, alone):
+    """A put whose log is written, and whose blocks find no room in the file, is saved and says so. Until there is room each
+    reading says why it isn't read, and changes nothing; then the next finds the put done."""
+    with small_room(program, alone) as room:
+        filler, pairs = room.at("filler"), {**PAIRS}
+        fill(filler, FEW)
+        for key in (f"#{number * 40503 % 65536:04x}d1" for number in range(1000)):
+            done, pairs[key] = room.run(calling("put", key, "v")), "v"
+            if done.returncode:
+                break
+        if b"stands in the log" not in done.stderr:
+            raise Wrong(f"status {done.returncode}: {done.stdout} {done.stderr[:200]}")
+        for words, text in ((calling("get", key), b""), (["check", PLACE], b"refused 41\n")):
+            room.is_let_be(words, "can't be copied into it: No space left on device (os error 28) (refused 41)", text=text)
+        filler.unlink()
+        room.has(pairs)
+        room.has_no_log()
+
+
 TRAPS = {
     it.__name__.replace("_", " "): it
     for it in (
@@ -316,5 +337,6 @@ TRAPS = {
         folder_to_read,
         sticky_folder,
         full_disk,
+        full_disk_behind_the_log,
     )
 }

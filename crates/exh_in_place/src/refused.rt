@@ -26,6 +26,9 @@ pub enum Refused {
     /// It wasn't changed, or may have been, as the fault says.
     #[error("{0}")]
     Change(ChangeFault),
+    /// A change that was cut off stands in the log beside it, and can't be copied into it.
+    #[error("a change stands in the log beside the file, and can't be copied into it: {0}")]
+    Unrecovered(Error),
 }
 
 impl Refused {

@@ -91,6 +91,9 @@ pub enum StoreError {
     /// at all.
     #[error("{0}; see what is there before it is tried again (refused 42)")]
     Unsure(Refused),
+    /// A change that was cut off stands in the log beside it, and can't be copied into it.
+    #[error("{0} (refused 41)")]
+    Unrecovered(Refused),
     /// The change was saved, but the store has its file no longer.
     #[error("it is saved, but can't be opened again: {0} (refused 41)")]
     Unheld(io::Error),
@@ -267,6 +270,7 @@ impl From<Refused> for StoreError {
             Refused::Unfit(fault) => StoreError::from(fault),
             Refused::Damaged(fault) => StoreError::from(fault),
             Refused::Unwritten(fault) => StoreError::from(fault),
+            Refused::Unrecovered(error) => StoreError::Unrecovered(Refused::Unrecovered(error)),
             refused if refused.may_be_saved() => StoreError::Unsure(refused),
             refused => StoreError::NotSaved(refused),
         }
