@@ -1,5 +1,5 @@
 -- What stands around the last slash of a path.
-use Rattle.std.proofs.Common.{◌≡◌, ℕ, suc, ◌<◌, ◌≤◌, ◌+◌, List, [], ◌∷◌, ◌++◌, length, get_or, take, drop, None, Option, Some, MatchOption, Bor, refl, sym, ap, ◌∙◌, arith, take-append-drop, ne_eqb}
+use Rattle.std.proofs.Common.{◌≡◌, ℕ, suc, ◌<◌, ◌≤◌, ◌+◌, List, [], ◌∷◌, ◌++◌, length, get_or, take, drop, None, Option, Some, MatchOption, Bor, sym, ap, ◌∙◌, arith, take-append-drop, ne_eqb}
 use Rattle.std.specs.Str.Pattern.{RFindsChar}
 use Rattle.std.specs.Path.{HasNoSlash, slash}
 use Rattle.std.proofs.lemmas.Str.Pattern.{NoCharPasses-char}

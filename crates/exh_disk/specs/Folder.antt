@@ -10,3 +10,7 @@ folder_named bytes = if length bytes == 0 then root_dir else bytes
 abbrev pub IsFolderOf : List ℕ → List ℕ → Type 0
 IsFolderOf path folder = (HasNoSlash path × (folder ≡ cur_dir))
     ⊎ ((before : List ℕ) × (name : List ℕ) × (path ≡ before ++ slash ∷ name) × HasNoSlash name × (folder ≡ folder_named before))
+
+-- The name of a path's file is what stands behind its last slash, and all of it where it has none.
+abbrev pub IsNameIn : List ℕ → List ℕ → Type 0
+IsNameIn path name = HasNoSlash name × ((name ≡ path) ⊎ ((before : List ℕ) × (path ≡ before ++ slash ∷ name)))

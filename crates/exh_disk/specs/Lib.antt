@@ -1,3 +1,4 @@
+pub mod Answer
 pub mod DiskFault
 pub mod Folder
 pub mod Found

@@ -1,7 +1,7 @@
 -- How far a file is on its way to its path: what the calls of a disk ask of it, and what they make of it.
 use Rattle.std.specs.Prelude.{Bool, true, false}
 use Rattle.exh_disk.specs.declared.stage.Stage.{Stage}
-use Rattle.exh_disk.specs.declared.stage.Stage.TheVariants.{Made, Left, Held, HeldLeft, OwnMade, OwnLeft, Restricted, Empty, Dressed, Written, Synchronized, Confirmed, Linked, Unlinkable, Placed, Settled}
+use Rattle.exh_disk.specs.declared.stage.Stage.TheVariants.{Made, Left, Held, HeldLeft, OwnMade, OwnLeft, Restricted, Empty, Dressed, Written, Synchronized, Confirmed, Linked, Unlinkable}
 
 -- once it is locked: what it is may have another name by now
 abbrev pub locked : Stage → Stage

@@ -1,5 +1,9 @@
 //! The calls that a save makes of the system.
-ghost use Rattle.std.specs.Prelude.{◌≡◌, ◌≢◌, ℕ, Bool, IfOk, List, OnErr, OnOk, Option, false, string_bytes, true};
+ghost use Rattle.std.specs.Prelude.{◌≡◌, ◌≢◌, ℕ, Bool, IfErr, IfOk, List, OnErr, OnOk, Option, false, string_bytes, true};
+ghost use Rattle.std.specs.IoError.{error_kind};
+ghost use Rattle.std.specs.declared.io.ErrorKind.TheVariants.{NotFound};
+ghost use Rattle.exh_disk.specs.declared.found.Found.{Found};
+ghost use Rattle.exh_disk.specs.Answer.{Answer, Begins, Fails, Leads, Named, Unnamed};
 ghost use Rattle.exh_disk.specs.declared.stage.Stage.{Stage};
 ghost use Rattle.exh_disk.specs.declared.stage.Stage.TheVariants.{Confirmed, Dressed, Empty, Left, Linked, Made, OwnLeft, Placed, Restricted, Settled, Synchronized, Unlinkable, Written};
 ghost use Rattle.exh_disk.specs.History.{History, SameBut, kept, placed, placed_if};
@@ -46,6 +50,11 @@ pub trait Disk {
     /// Which path without links a path may lead to.
     ghost leads: { List ℕ → List ℕ → Type 0 };
 
+    /// What the disk may answer, and what an opened file may be by now.
+    ghost answers: { Answer → Type 0 };
+
+    ghost finds: { Self.Opened → Found → Type 0 };
+
     /// For whom the program runs.
     fn runner(&mut self) -> io::Result<Runner>
         ensures { history self.new ≡ history self.old };
@@ -53,36 +62,49 @@ pub trait Disk {
     /// The path of what a path leads to, without links.
     fn whole_path(&mut self, alloc: Global, path: &str) -> io::Result<String>
         ensures whole { IfOk result (λ whole. leads path.now (string_bytes whole)) }
+        ensures fails { IfErr result (λ error. answers (Fails error)) }
         ensures crash { history self.new ≡ history self.old };
 
     /// What a path leads to.
     fn ask(&mut self, path: &str) -> io::Result<Found>
-        ensures { history self.new ≡ history self.old };
+        ensures found { IfOk result (λ found. answers (Leads path.now found)) }
+        ensures fails { IfErr result (λ error. answers (Fails error)) }
+        ensures crash { history self.new ≡ history self.old };
 
     /// What has a name, a link itself.
     fn ask_name(&mut self, name: &str) -> io::Result<Found>
-        ensures { history self.new ≡ history self.old };
+        ensures found { IfOk result (λ found. answers (Named name.now found)) }
+        ensures none { IfErr result (λ error. error_kind error ≡ NotFound → answers (Unnamed name.now)) }
+        ensures fails { IfErr result (λ error. answers (Fails error)) }
+        ensures crash { history self.new ≡ history self.old };
 
     /// The first bytes of a file that can be read and written, zeros behind its end.
     fn head(&mut self, path: &str) -> io::Result<Head>
-        ensures { history self.new ≡ history self.old };
+        ensures begins { IfOk result (λ head. answers (Begins path.now head)) }
+        ensures fails { IfErr result (λ error. answers (Fails error)) }
+        ensures crash { history self.new ≡ history self.old };
 
     /// Opens the regular file at a path, to lock it.
     fn open_old(&mut self, path: &str) -> io::Result<Self::Opened>
-        ensures { history self.new ≡ history self.old };
+        ensures fails { IfErr result (λ error. answers (Fails error)) }
+        ensures crash { history self.new ≡ history self.old };
 
     /// What an opened file is by now.
     fn ask_opened(&mut self, opened: &Self::Opened) -> io::Result<Found>
-        ensures { history self.new ≡ history self.old };
+        ensures found { IfOk result (finds opened.now) }
+        ensures fails { IfErr result (λ error. answers (Fails error)) }
+        ensures crash { history self.new ≡ history self.old };
 
     /// Takes the lock of an opened file, and doesn't wait for it.
     fn hold(&mut self, opened: &Self::Opened) -> io::Result<Self::Held>
         ensures stands { IfOk result (λ held. (path : List ℕ) → stands held path ≡ false) }
+        ensures fails { IfErr result (λ error. answers (Fails error)) }
         ensures crash { history self.new ≡ history self.old };
 
     /// Whether a locked file has the name of a path, as it was.
     fn confirm_old(&mut self, held: &mut Self::Held, path: &str, was: &Found) -> io::Result<bool>
         ensures stands { IfOk result (λ is_there. stands held.new path.now ≡ is_there) }
+        ensures fails { IfErr result (λ error. answers (Fails error)) }
         ensures crash { history self.new ≡ history self.old };
 
     /// Takes away a name beside a path that is another one of the locked file at the path.

@@ -68,9 +68,8 @@ pub enum DiskFault {
 }
 
 impl DiskFault {
-    ghost use Rattle.std.specs.Prelude.{◌≡◌, ◌≢◌};
-    ghost use Rattle.std.specs.IoError.{error_kind};
-    ghost use Rattle.exh_disk.specs.declared.fault.DiskFault.TheVariants.{Busy};
+    ghost use Rattle.std.specs.Prelude.{◌≡◌};
+    ghost use Rattle.exh_disk.specs.Answer.{IsBusyTold};
     ghost use Rattle.exh_disk.specs.DiskFault.{told};
 
     /// A call of the system failed: want of memory is told apart.
@@ -86,8 +85,7 @@ impl DiskFault {
 
     /// The same, but for a kind of error by which the system says that another save has the file.
     pub fn busy_at(busy: ErrorKind, call: Call, error: io::Error) -> DiskFault
-        ensures busy { error_kind error ≡ busy → result ≡ Busy }
-        ensures other { error_kind error ≢ busy → result ≡ told call error }
+        ensures { IsBusyTold busy call error result }
     {
         if error.kind() == busy {
             DiskFault::Busy

@@ -1,4 +1,6 @@
-ghost use Rattle.std.specs.Prelude.{◌≡◌, IfOk, IsTrue};
+ghost use Rattle.std.specs.Prelude.{◌≡◌, IfErr, IfOk};
+ghost use Rattle.exh_disk.specs.Answer.{IsLeading, IsTold};
+ghost use Rattle.exh_disk.specs.declared.fault.Call.TheVariants.{Ask};
 
 use crate::{Call, Disk, DiskFault};
 use std::alloc::Global;
@@ -13,7 +15,8 @@ pub fn leads_to<D: Disk>(
     named: &str,
     path: &str,
 ) -> Result<bool, DiskFault>
-    ensures leads { IfOk result (λ leads. IsTrue leads → D.leads named.now path.now) }
+    ensures leads { IfOk result (IsLeading D.leads D.answers named.now path.now) }
+    ensures err { IfErr result (IsTold D.answers Ask) }
     ensures crash { D.history disk.new ≡ D.history disk.old }
 {
     match disk.whole_path(alloc, named) {

@@ -9,6 +9,7 @@ pub use found::{Found, Head, Kind, Runner};
 pub use leading::leads_to;
 pub use lock::Lock;
 pub use locking::hold;
+pub use name::file_name_of;
 pub use seen::Seen;
 pub use stage::Stage;
 
@@ -19,5 +20,6 @@ mod found;
 mod leading;
 mod lock;
 mod locking;
+mod name;
 mod seen;
 mod stage;

@@ -1,4 +1,5 @@
-ghost use Rattle.std.specs.Prelude.{◌≡◌, ℕ, IfOk, List, false};
+ghost use Rattle.std.specs.Prelude.{◌≡◌, ℕ, IfErr, IfOk, List, false};
+ghost use Rattle.exh_disk.specs.Answer.{IsHoldTold};
 
 use crate::{Call, Disk, DiskFault};
 use std::io::ErrorKind;
@@ -8,6 +9,7 @@ use std::io::ErrorKind;
 /// `Busy`: another run has it. `System`: the system has no locks for it.
 pub fn hold<D: Disk>(disk: &mut D, opened: &D::Opened) -> Result<D::Held, DiskFault>
     ensures stands { IfOk result (λ held. (path : List ℕ) → D.stands held path ≡ false) }
+    ensures err { IfErr result (IsHoldTold D.answers) }
     ensures crash { D.history disk.new ≡ D.history disk.old }
 {
     match disk.hold(opened) {

@@ -1,9 +1,11 @@
-ghost use Rattle.std.specs.Prelude.{◌≡◌, ◌⊎◌, ◌↔◌, IfErr, IfOk, IsTrue, OnOk, string_bytes};
+ghost use Rattle.std.specs.Prelude.{◌≡◌, ◌⊎◌, ◌↔◌, IfErr, IfOk, IsOk, IsTrue, OnErr, OnOk, string_bytes};
 ghost use Rattle.std.specs.IoError.{error_kind};
 ghost use Rattle.std.specs.Option.{option_copied};
 ghost use Rattle.std.specs.declared.io.ErrorKind.TheVariants.{OutOfMemory};
+ghost use Rattle.exh_disk.specs.Answer.{Fails};
 ghost use Rattle.exh_disk.specs.Found.{IsSame, IsUnchanged};
-ghost use Rattle.exh_disk.specs.Seen.{IsAt, IsLocked, IsSeenAt, MayReplace};
+ghost use Rattle.exh_disk.specs.declared.fault.DiskFault.TheVariants.{NotAsOpened};
+ghost use Rattle.exh_disk.specs.Seen.{IsAt, IsKept, IsLocked, IsSeenAt, IsUnlocked, MayReplace};
 
 use crate::{Call, Disk, DiskFault, Found, Kind, Lock, hold, leads_to};
 use std::alloc::Global;
@@ -37,7 +39,7 @@ impl<O: Drop> Seen<O> {
         path: &str,
         opened: O,
     ) -> io::Result<Seen<O>>
-        ensures seen { IfOk result (IsSeenAt D.leads path.now opened) }
+        ensures seen { IfOk result (IsSeenAt D.leads D.answers D.finds path.now opened) }
         ensures err { IfErr result (λ error. error_kind error ≡ OutOfMemory) }
         ensures crash { D.history disk.new ≡ D.history disk.old }
     {
@@ -70,6 +72,7 @@ impl<O: Drop> Seen<O> {
         disk: &mut D,
     ) -> Result<Lock<D::Held>, DiskFault>
         ensures ok { IfOk result (IsLocked D.stands self.now) }
+        ensures err { IfErr result (IsUnlocked D.answers self.now) }
         ensures crash { D.history disk.new ≡ D.history disk.old }
     {
         let about = match &self.about {
@@ -111,7 +114,9 @@ impl<O: Drop> Seen<O> {
         path: &str,
         there: Option<&Found>,
     ) -> Result<(), DiskFault>
-        ensures ok { OnOk result (MayReplace self.now named.now path.now (option_copied there.entry)) }
+        ensures ok { OnOk result (MayReplace D.finds self.now named.now path.now (option_copied there.entry)) }
+        ensures may { IsOk self.now.about → MayReplace D.finds self.now named.now path.now (option_copied there.entry) → IsOk result }
+        ensures err { IfErr result (IsKept self.now) }
         ensures crash { D.history disk.new ≡ D.history disk.old }
     {
         let is_named = self.named.as_str() == named;
@@ -132,6 +137,9 @@ impl About {
     fn check(&self, is_named: bool, path: &str, there: &Found) -> Result<(), DiskFault>
         ensures named { OnOk result (IsTrue is_named → (string_bytes self.now.path ≡ path.now) × IsUnchanged self.now.found there.now) }
         ensures elsewhere { OnOk result ((string_bytes self.now.path ≡ path.now) ⊎ IsSame self.now.found there.now → IsUnchanged self.now.found there.now) }
+        ensures kept { OnErr result ((IsTrue is_named → (string_bytes self.now.path ≡ path.now) × IsUnchanged self.now.found there.now)
+            → ((string_bytes self.now.path ≡ path.now) ⊎ IsSame self.now.found there.now → IsUnchanged self.now.found there.now) → ⊥) }
+        ensures err { IfErr result (λ fault. fault ≡ NotAsOpened) }
     {
         let is_path = self.path.as_str() == path;
         let is_at = is_path || !is_named && self.found.is_same(there);
@@ -150,7 +158,8 @@ fn about_of<D: Disk>(
     path: &str,
     opened: &D::Opened,
 ) -> io::Result<About>
-    ensures whole { IfOk result (λ about. D.leads path.now (string_bytes about.path)) }
+    ensures whole { IfOk result (λ about. D.leads path.now (string_bytes about.path) × D.finds opened.now about.found) }
+    ensures fails { IfErr result (λ error. D.answers (Fails error)) }
     ensures crash { D.history disk.new ≡ D.history disk.old }
 {
     let found = disk.ask_opened(opened)?;

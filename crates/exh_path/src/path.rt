@@ -1,7 +1,10 @@
-ghost use Rattle.std.specs.Prelude.{◌≡◌, ◌⊎◌, ℕ, IfOk, IfSome, List};
+ghost use Rattle.std.specs.Prelude.{◌≡◌, ◌⊎◌, ℕ, IfErr, IfNone, IfOk, IfSome, List, OnOk};
 ghost use Rattle.exh_disk.specs.declared.stage.Stage.TheVariants.{Settled};
 ghost use Rattle.std.specs.Io.KnownBytes.{Appends};
-ghost use Rattle.exh_saving.specs.Saved.{IsSaved, IsWhereOpened, SavesAt};
+ghost use Rattle.exh_path.specs.declared.path.TheConstants.{MAGIC};
+ghost use Rattle.exh_saving.specs.Refused.{IsRefused};
+ghost use Rattle.exh_saving.specs.Replaced.{IsFree, LeadsToDevice, MaySave};
+ghost use Rattle.exh_saving.specs.Saved.{IsSaved, SavesAt};
 ghost use Rattle.exh_file.specs.Draft.{IsDraftLeft, bytes_in};
 
 use crate::wards::{Metered, Wards};
@@ -25,7 +28,9 @@ pub fn look_at<D: Disk>(
     path: &str,
     seen: Option<&Seen<D::Opened>>,
 ) -> Result<(), DiskFault>
-    ensures { D.history disk.new ≡ D.history disk.old }
+    ensures free { OnOk result (MaySave D.leads D.answers D.finds MAGIC path.now seen.entry) }
+    ensures err { IfErr result (IsRefused D.answers MAGIC path.now seen.entry) }
+    ensures crash { D.history disk.new ≡ D.history disk.old }
 {
     look(alloc, disk, &target_at(path, seen))
 }
@@ -46,13 +51,14 @@ pub fn save_at<D: Disk, P: Pages + Drop, T: Terminal>(
     ensures bytes { IfOk result.0 (λ saved. IfSome saved.file (λ file.
         Appends D.unwritten (D.holds file) (bytes_in draft))) }
     ensures settled { IfOk result.0 (λ saved. IfSome saved.file (λ file. D.stage file ≡ Settled)) }
+    ensures device { IfOk result.0 (λ saved. IfNone saved.file (LeadsToDevice D.answers path.now)) }
     ensures wards { IsDraftLeft draft result.1 }
     // At each moment of the call a crash leaves at the path, without links, what it could leave there before, or these wards.
-    // Where the path is named as a file was that was opened, it is without links the one at which that was.
+    // A file comes there only where nothing is, or what may be replaced.
     ensures crash { (whole : List ℕ) × ((whole ≡ path.now) ⊎ D.leads path.now whole)
-        × SavesAt (D.history disk.old whole) (D.history disk.new whole)
+        × SavesAt (D.history disk.old whole) (D.history disk.new whole) D.holds
         (IsSaved D.unwritten (bytes_in draft)) result.0
-        × IfOk result.0 (λ saved. IfSome saved.file (λ _. IfSome seen.entry (λ seen. IsWhereOpened seen.now path.now whole))) }
+        × IfOk result.0 (λ saved. IfSome saved.file (λ _. IsFree D.answers D.finds MAGIC path.now seen.entry whole)) }
 {
     let wards = Wards { draft };
     let (saved, wards) = save(
@@ -67,6 +73,7 @@ pub fn save_at<D: Disk, P: Pages + Drop, T: Terminal>(
 
 fn target_at<'t, O: Drop>(path: &'t str, seen: Option<&'t Seen<O>>) -> Target<'t, O>
     ensures path { result.path.now ≡ path.now }
+    ensures magic { result.magic ≡ MAGIC }
     ensures seen { result.seen ≡ seen.entry }
 {
     Target {

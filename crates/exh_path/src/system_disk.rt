@@ -46,7 +46,7 @@ impl<'r> SystemDisk<'r> {
     ///
     /// An error: memory ran out.
     pub fn seen(&mut self, path: &str, opened: File) -> io::Result<OpenedFile>
-        ensures seen { IfOk result (IsSeenAt (λ _ _. ⊤) path.now opened) }
+        ensures seen { IfOk result (IsSeenAt (λ _ _. ⊤) (λ _. ⊤) (λ _ _. ⊤) path.now opened) }
         ensures err { IfErr result (λ error. error_kind error ≡ OutOfMemory) }
     {
         Seen::new(self.rt.alloc(), self, path, opened)
@@ -75,6 +75,10 @@ impl Disk for SystemDisk<'_> {
     ghost history = { λ _ _. None };
 
     ghost leads = { λ _ _. ⊤ };
+
+    ghost answers = { λ _. ⊤ };
+
+    ghost finds = { λ _ _. ⊤ };
 
     // The folder that the system has of a process is of whom that runs for.
     fn runner(&mut self) -> io::Result<Runner> {

@@ -1,4 +1,6 @@
 //! The writers' lock of a file of the system, which is waited for.
+ghost use Rattle.std.specs.Prelude.{◌≤◌};
+ghost use Rattle.std.specs.Duration.{as_nanos};
 
 use std::fs::{File, TryLockError};
 use std::io;
@@ -49,7 +51,10 @@ fn try_once(file: &File, way: LockWay) -> Result<(), TryLockError> {
 }
 
 /// A pause of 2 to 20 milliseconds, which the nanoseconds that have passed choose, so that two that wait don't ask in step.
-pub fn pause_after(passed: Duration) -> Duration {
+pub fn pause_after(passed: Duration) -> Duration
+    ensures least { 2_000_000 ≤ as_nanos result }
+    ensures most { as_nanos result ≤ 20_000_000 }
+{
     let chance = u64::from(passed.subsec_nanos()) % (MOST_PAUSE - LEAST_PAUSE + 1);
     Duration::from_millis(LEAST_PAUSE + chance)
 }

@@ -1,5 +1,5 @@
--- for the file that was opened
-pub mod Opened
+-- for a save that wrote no file
+pub mod NoFile
 -- for a save's answer
 pub mod Moments
 -- for what takes a file's name away

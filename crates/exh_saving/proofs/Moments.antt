@@ -1,5 +1,5 @@
 -- What a crash may leave at a path, once a file got it and once it didn't.
-use Rattle.std.proofs.Common.{◌≡◌, ◌⊎◌, ◌+◌, ◌-◌, ◌<◌, ◌≤◌, ℕ, List, [], ◌∷◌, ◌++◌, length, drop, None, Option, Some, Ok, Err, Result, IfNone, IfOk, IfSome, refl, sym, ap, subst, inl, inr, ⊎_elim, arith, length-append}
+use Rattle.std.proofs.Common.{◌≡◌, ◌⊎◌, ◌-◌, ◌<◌, ◌≤◌, ℕ, List, [], ◌∷◌, ◌++◌, length, drop, None, Option, Some, Ok, Err, Result, IfNone, IfOk, IfSome, sym, ap, subst, inl, inr, ⊎_elim, arith, length-append}
 use Rattle.std.specs.Prelude.{Contains}
 use Rattle.std.specs.declared.io.Error.{Error}
 use Rattle.std.proofs.lemmas.Bool.{cases_lt}
@@ -49,24 +49,30 @@ nothing_leaves None IsNew left since = inl tt
 nothing_leaves (Some old) IsNew left since = inl since
 
 -- where no file was saved what stood there stands there
-pub stays_at : {F : Type 0} (old new : Option History) (IsNew : Standing → Type 0) (result : Result (Saved F) DiskFault)
-    → new ≡ old → IfOk result (λ saved. saved.file ≡ None) → SavesAt old new IsNew result
-stays_at {F = F} old new IsNew (Ok saved) same none = record {
+pub stays_at : {F : Type 0} (old new : Option History) (holds : F → Option (List ℕ)) (IsNew : Standing → Type 0) (result : Result (Saved F) DiskFault)
+    → new ≡ old → IfOk result (λ saved. saved.file ≡ None) → SavesAt old new holds IsNew result
+stays_at {F = F} old new holds IsNew (Ok saved) same none = record {
   any_moment = subst (λ history. LeavesOldOrNew old history IsNew) (sym same) (nothing_leaves old IsNew);
   refused = tt;
+  came = subst (λ (file : Option F). IfSome file (λ file. new ≡ saved_history old (holds file) saved.folder)) (sym none) tt;
+  stayed = subst (λ (file : Option F). IfNone file (new ≡ old)) (sym none) same;
   settled = subst (λ (file : Option F). IfSome file (λ _. IfNone saved.folder (LeavesOnly new IsNew))) (sym none) tt;
 }
-stays_at {F = F} old new IsNew (Err fault) same none = record {
+stays_at {F = F} old new holds IsNew (Err fault) same none = record {
   any_moment = subst (λ history. LeavesOldOrNew old history IsNew) (sym same) (nothing_leaves old IsNew);
   refused = same;
+  came = tt;
+  stayed = tt;
   settled = tt;
 }
 
 -- where one was saved
-pub saved_at : {F : Type 0} (old new : Option History) (has : Option (List ℕ)) (folder : Option Error) (IsNew : Standing → Type 0) (file : F)
-    → new ≡ saved_history old has folder → IsNew (File has) → SavesAt old new IsNew (Ok (record { file = Some file; folder = folder }))
-saved_at old new has folder IsNew file placed is_new = record {
-  any_moment = subst (λ history. LeavesOldOrNew old history IsNew) (sym placed) (place_leaves old has folder IsNew is_new);
+pub saved_at : {F : Type 0} (old new : Option History) (holds : F → Option (List ℕ)) (folder : Option Error) (IsNew : Standing → Type 0) (file : F)
+    → new ≡ saved_history old (holds file) folder → IsNew (File (holds file)) → SavesAt old new holds IsNew (Ok (record { file = Some file; folder = folder }))
+saved_at old new holds folder IsNew file placed is_new = record {
+  any_moment = subst (λ history. LeavesOldOrNew old history IsNew) (sym placed) (place_leaves old (holds file) folder IsNew is_new);
   refused = tt;
-  settled = subst (λ history. IfNone folder (LeavesOnly history IsNew)) (sym placed) (settled_leaves old has folder IsNew is_new);
+  came = placed;
+  stayed = tt;
+  settled = subst (λ history. IfNone folder (LeavesOnly history IsNew)) (sym placed) (settled_leaves old (holds file) folder IsNew is_new);
 }

@@ -1,1 +1,5 @@
+pub mod LeftOver
+pub mod Names
+pub mod Refused
+pub mod Replaced
 pub mod Saved

@@ -1,10 +1,13 @@
 //! A save of a regular file: it is written beside its path, and renamed over it, or linked to it where nothing is there.
-ghost use Rattle.std.specs.Prelude.{◌≡◌, ◌≢◌, ◌⊎◌, IfOk, IfSome, IsOk, OnErr, OnOk, string_bytes, true};
+ghost use Rattle.std.specs.Prelude.{◌≡◌, ◌≢◌, ◌⊎◌, ◌↔◌, IfOk, IsOk, IsTrue, OnErr, Option, OnOk, string_bytes, true};
 ghost use Rattle.std.specs.Io.KnownBytes.{Appends};
+ghost use Rattle.std.specs.Option.{option_map};
 ghost use Rattle.exh_disk.specs.declared.stage.Stage.TheVariants.{Confirmed, Empty, Placed, Settled, Unlinkable};
 ghost use Rattle.exh_disk.specs.History.{placed};
 ghost use Rattle.exh_disk.specs.Stage.{is_fillable, is_ours};
-ghost use Rattle.exh_saving.specs.Saved.{IsWhereOpened, saved_history};
+ghost use Rattle.exh_disk.specs.declared.found.Found.{Found};
+ghost use Rattle.exh_saving.specs.Replaced.{IsFree, IsReplaceable, IsStill};
+ghost use Rattle.exh_saving.specs.Saved.{saved_history};
 
 use crate::claiming::{claim, see_own};
 use crate::dressing::dress;
@@ -33,7 +36,7 @@ pub(crate) fn save_beside<D: Disk, S: Source, V: Watch>(
     ensures bytes { IfOk result.0 (λ saved. Appends D.unwritten (D.holds saved.0) (S.bytes source)) }
     ensures placed { IfOk result.0 (λ saved. D.history disk.new path.now ≡ saved_history (D.history disk.old path.now) (D.holds saved.0) saved.1) }
     ensures crash { OnErr result.0 (D.history disk.new path.now ≡ D.history disk.old path.now) }
-    ensures opened { OnOk result.0 (IfSome target.now.seen (λ seen. IsWhereOpened seen.now target.now.path.now path.now)) }
+    ensures free { OnOk result.0 (IsFree D.answers D.finds target.now.magic target.now.path.now target.now.seen path.now) }
     ensures source { (result.1 ≡ source) ⊎ S.leaves source result.1 }
 {
     let mut old = match hold_old(disk, path, target) {
@@ -94,7 +97,9 @@ fn finish<D: Disk>(
 }
 
 // What was found of the file that is to be replaced.
-fn found_of<H: Drop>(old: &Option<Old<H>>) -> Option<Found> {
+fn found_of<H: Drop>(old: &Option<Old<H>>) -> Option<Found>
+    ensures { result ≡ option_map (λ old. old.found) old.now }
+{
     match old {
         Some(old) => Some(old.found),
         None => None,
@@ -156,12 +161,13 @@ fn prepare<D: Disk>(
     old: Option<Found>,
 ) -> Result<(), DiskFault>
     requires { D.stage file.old ≡ Empty }
+    ensures still { OnOk result ((there : Option Found) × IsReplaceable D.answers target.now.magic path.now there × IsStill old there) }
     ensures stage { is_fillable (D.stage file.new) ≡ true }
     ensures bytes { D.holds file.new ≡ D.holds file.old }
     ensures crash { D.history disk.new ≡ D.history disk.old }
 {
     let there = old_at(disk, path, target)?;
-    if !is_unchanged(&old, &there) {
+    if !is_still(&old, &there) {
         return Err(DiskFault::Changed);
     }
     match &there {
@@ -283,7 +289,9 @@ fn rename_new<D: Disk>(
 }
 
 // Whether nothing came, went or was written to in between.
-fn is_unchanged(old: &Option<Found>, there: &Option<Found>) -> bool {
+fn is_still(old: &Option<Found>, there: &Option<Found>) -> bool
+    ensures { IsTrue result ↔ IsStill old.now there.now }
+{
     match (old, there) {
         (Some(old), Some(there)) => old.is_unchanged(there),
         (None, None) => true,

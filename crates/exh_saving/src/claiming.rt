@@ -1,11 +1,13 @@
 //! The file beside a path that a save has for itself.
-ghost use Rattle.std.specs.Prelude.{◌≡◌, ◌≢◌, ◌⊎◌, IfOk, IfSome, OnErr, OnOk, string_bytes, true};
+ghost use Rattle.std.specs.Prelude.{◌≡◌, ◌≢◌, ◌⊎◌, ◌↔◌, IfOk, IfSome, IsTrue, OnErr, OnOk, string_bytes, true};
+ghost use Rattle.std.specs.Option.{option_copied};
 ghost use Rattle.exh_disk.specs.declared.stage.Stage.TheVariants.{Empty, Made, OwnLeft};
 ghost use Rattle.exh_disk.specs.History.{SameBut};
 ghost use Rattle.exh_disk.specs.Stage.{asked, is_ours, locked};
+ghost use Rattle.exh_saving.specs.LeftOver.{BeginsAs, IsLeftOver};
 
 use crate::names::{SUFFIXES, name_beside, names_beside};
-use exh_disk::{Call, Disk, DiskFault, Found, Kind, Runner};
+use exh_disk::{Call, Disk, DiskFault, Found, Head, Kind, Runner};
 use std::alloc::Global;
 use std::io::ErrorKind;
 
@@ -74,7 +76,9 @@ fn claim_name<D: Disk>(
 }
 
 // Whether a killed save may have left this: it is of whom the program runs for, or of whom it was to be given to.
-fn is_left_over(found: &Found, runner: Option<Runner>, old: Option<&Found>) -> bool {
+fn is_left_over(found: &Found, runner: Option<Runner>, old: Option<&Found>) -> bool
+    ensures { IsTrue result ↔ IsLeftOver found.now runner (option_copied old.entry) }
+{
     let is_of_runner = runner.is_some_and(|runner| found.owner == runner.user);
     let is_of_old = old.is_some_and(|old| found.owner == old.owner);
     found.kind == Kind::Regular && found.links == 1 && (is_of_runner || is_of_old)
@@ -158,13 +162,18 @@ fn is_of_a_save<D: Disk>(disk: &mut D, name: &str, magic: [u8; 8]) -> Result<boo
     ensures { D.history disk.new ≡ D.history disk.old }
 {
     match disk.head(name) {
-        Ok(head) => {
-            let mut pairs = head.bytes.iter().zip(magic.iter()).enumerate();
-            Ok(pairs.all(|(at, (byte, wanted))| at as u64 >= head.found.size || byte == wanted))
-        }
+        Ok(head) => Ok(begins_as(&head, magic)),
         Err(error) if error.kind() == ErrorKind::PermissionDenied => Ok(false),
         Err(error) => Err(DiskFault::at(Call::Make, error)),
     }
+}
+
+// Whether a file begins so, as far as it goes.
+fn begins_as(head: &Head, magic: [u8; 8]) -> bool
+    ensures { IsTrue result ↔ BeginsAs head.now magic }
+{
+    let len = head.found.size.min(8) as usize;
+    head.bytes[..len] == magic[..len]
 }
 
 // Makes a file in place of what a save left.

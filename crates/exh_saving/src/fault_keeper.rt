@@ -1,4 +1,8 @@
-ghost use Rattle.std.specs.Prelude.{◌≡◌};
+ghost use Rattle.std.specs.Prelude.{◌≡◌, IfNone, IfSome, IsSome, None, OnErr};
+ghost use Rattle.std.specs.Io.{WritesAtMost};
+ghost use Rattle.std.specs.Io.KnownBytes.{WriteAppends};
+ghost use Rattle.std.specs.IoError.{error_kind};
+ghost use Rattle.std.specs.declared.io.ErrorKind.TheVariants.{WriteZero};
 
 use crate::Watch;
 use std::io;
@@ -14,7 +18,8 @@ pub(crate) struct FaultKeeper<'v, W: Write + Drop, V: Watch> {
 
 impl<'v, W: Write + Drop, V: Watch> FaultKeeper<'v, W, V> {
     pub(crate) fn new(writer: W, watch: &'v V) -> FaultKeeper<'v, W, V>
-        ensures { result.writer ≡ writer }
+        ensures writer { result.writer ≡ writer }
+        ensures fault { result.fault ≡ None }
     {
         FaultKeeper {
             writer,
@@ -25,7 +30,9 @@ impl<'v, W: Write + Drop, V: Watch> FaultKeeper<'v, W, V> {
 
     /// The writer, and why it failed last; where it took no bytes without a word, that.
     pub(crate) fn into_parts(self) -> (W, io::Error)
-        ensures { result.0 ≡ self.entry.writer }
+        ensures writer { result.0 ≡ self.entry.writer }
+        ensures fault { IfSome self.entry.fault (λ fault. result.1 ≡ fault) }
+        ensures none { IfNone self.entry.fault (error_kind result.1 ≡ WriteZero) }
     {
         match self.fault {
             Some(fault) => (self.writer, fault),
@@ -37,7 +44,11 @@ impl<'v, W: Write + Drop, V: Watch> FaultKeeper<'v, W, V> {
 impl<W: Write + Drop, V: Watch> Write for FaultKeeper<'_, W, V> {
     ghost contents = { λ keeper. W.contents keeper.writer };
 
-    fn write(&mut self, bytes: &[u8]) -> io::Result<usize> {
+    fn write(&mut self, bytes: &[u8]) -> io::Result<usize>
+        ensures bound { WritesAtMost result bytes.now }
+        ensures bytes { WriteAppends (W.contents self.old.writer) (W.contents self.new.writer) result bytes.now }
+        ensures kept { OnErr result (IsSome self.new.fault) }
+    {
         match self.writer.write(bytes) {
             Ok(count) => {
                 self.watch.wrote(&bytes[..count]);

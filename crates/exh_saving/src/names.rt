@@ -1,6 +1,8 @@
 //! The names that a save makes of a path.
-ghost use Rattle.std.specs.Prelude.{◌≡◌, ◌++◌, ◌+◌, ◌≤◌, ℕ, IfOk, length, string_bytes, take};
+ghost use Rattle.std.specs.Prelude.{◌≡◌, ◌++◌, ◌+◌, ◌≤◌, IfOk, length, string_bytes};
+ghost use Rattle.exh_saving.specs.Names.{IsBeside};
 
+use exh_disk::file_name_of;
 use std::alloc::{AllocError, Global};
 
 /// What stands behind the name of a file while its new bytes are written beside it. The later ones are for where the
@@ -18,7 +20,7 @@ const NAME_LIMIT: usize = 255;
 /// The name of a file beside a path: that of the path with a suffix behind it, of which as many bytes before the suffix
 /// are left out as are too many, and of a character all.
 pub(crate) fn name_beside(alloc: Global, path: &str, suffix: &str) -> Result<String, AllocError>
-    ensures cut { IfOk result (λ name. (kept : ℕ) × (string_bytes name ≡ take kept path.now ++ suffix.now)) }
+    ensures cut { IfOk result (λ name. IsBeside path.now suffix.now (string_bytes name)) }
     ensures whole { length path.now + length suffix.now ≤ 255 → IfOk result (λ name. string_bytes name ≡ path.now ++ suffix.now) }
 {
     let len = file_name_of(path).len().saturating_add(suffix.len());
@@ -40,14 +42,4 @@ pub(crate) fn names_beside(alloc: Global, path: &str) -> Result<String, AllocErr
         names.push_str(&format!(in alloc; "{name:?}")?)?;
     }
     Ok(names)
-}
-
-/// The name of a path's file in its folder.
-pub(crate) fn file_name_of(path: &str) -> &str
-    ensures { length result.now ≤ length path.now }
-{
-    match path.rsplit_once('/') {
-        Some((_, name)) => name,
-        None => path,
-    }
 }

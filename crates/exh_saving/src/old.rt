@@ -2,7 +2,7 @@
 ghost use Rattle.std.specs.Prelude.{◌≡◌, ◌≢◌, IfOk, IfSome, OnOk, true};
 ghost use Rattle.std.specs.Option.{option_map};
 ghost use Rattle.exh_disk.specs.Seen.{MayReplace};
-ghost use Rattle.exh_saving.specs.Saved.{IsWhereOpened};
+ghost use Rattle.exh_saving.specs.Replaced.{IsFree};
 
 use crate::Target;
 use crate::names::{SUFFIXES, name_beside};
@@ -25,8 +25,8 @@ pub(crate) fn hold_old<D: Disk>(
     path: &str,
     target: &Target<'_, D::Opened>,
 ) -> Result<Option<Old<D::Held>>, DiskFault>
-    ensures ok { IfOk result (λ old. IfSome target.now.seen (λ seen. MayReplace seen.now target.now.path.now path.now (option_map (λ held. held.found) old))) }
-    ensures opened { OnOk result (IfSome target.now.seen (λ seen. IsWhereOpened seen.now target.now.path.now path.now)) }
+    ensures ok { IfOk result (λ old. IfSome target.now.seen (λ seen. MayReplace D.finds seen.now target.now.path.now path.now (option_map (λ held. held.found) old))) }
+    ensures free { OnOk result (IsFree D.answers D.finds target.now.magic target.now.path.now target.now.seen path.now) }
     ensures crash { D.history disk.new ≡ D.history disk.old }
 {
     let Some(found) = old_at(disk, path, target)? else {

@@ -1,10 +1,13 @@
-ghost use Rattle.std.specs.Prelude.{◌≡◌, IfOk, IfSome, OnOk};
+ghost use Rattle.std.specs.Prelude.{◌≡◌, IfErr, IfOk, IfSome, MatchOption, OnOk};
+ghost use Rattle.exh_disk.specs.Answer.{IsTold, Leads, Named, Unnamed};
 ghost use Rattle.exh_disk.specs.Seen.{MayReplace};
-ghost use Rattle.exh_saving.specs.Saved.{IsWhereOpened, Reaches};
+ghost use Rattle.exh_disk.specs.declared.fault.Call.TheVariants.{Ask};
+ghost use Rattle.exh_saving.specs.Refused.{IsFileRefused, IsNameRefused, IsOldRefused, IsPathRefused};
+ghost use Rattle.exh_saving.specs.Replaced.{IsFree, IsReplaceable, IsReplaceableFile};
+ghost use Rattle.exh_saving.specs.Saved.{Reaches};
 
 use crate::Target;
-use crate::names::file_name_of;
-use exh_disk::{Call, Disk, DiskFault, Found, Kind};
+use exh_disk::{Call, Disk, DiskFault, Found, Kind, file_name_of};
 use std::alloc::Global;
 use std::io::ErrorKind;
 
@@ -19,14 +22,15 @@ pub(crate) enum PathTo {
 
 /// What a path to be saved to leads to.
 pub(crate) fn path_to<D: Disk>(alloc: Global, disk: &mut D, path: &str) -> Result<PathTo, DiskFault>
-    ensures reaches { IfOk result (Reaches D.leads path.now) }
+    ensures reaches { IfOk result (Reaches D.leads D.answers path.now) }
+    ensures err { IfErr result (IsPathRefused D.answers path.now) }
     ensures crash { D.history disk.new ≡ D.history disk.old }
 {
     if file_name_of(path).is_empty() {
         return Err(DiskFault::NoFileName);
     }
     match disk.ask(path) {
-        Ok(found) => path_to_found(alloc, disk, path, found.kind),
+        Ok(found) => path_to_found(alloc, disk, path, found),
         Err(error) if error.kind() == ErrorKind::NotFound => new_path(alloc, disk, path),
         Err(error) => Err(DiskFault::at(Call::Ask, error)),
     }
@@ -36,12 +40,14 @@ fn path_to_found<D: Disk>(
     alloc: Global,
     disk: &mut D,
     path: &str,
-    kind: Kind,
+    found: Found,
 ) -> Result<PathTo, DiskFault>
-    ensures reaches { IfOk result (Reaches D.leads path.now) }
+    requires { D.answers (Leads path.now found) }
+    ensures reaches { IfOk result (Reaches D.leads D.answers path.now) }
+    ensures err { IfErr result (IsPathRefused D.answers path.now) }
     ensures crash { D.history disk.new ≡ D.history disk.old }
 {
-    match kind {
+    match found.kind {
         Kind::Regular => match disk.whole_path(alloc, path) {
             Ok(path) => Ok(PathTo::File(path)),
             Err(error) => Err(DiskFault::at(Call::Ask, error)),
@@ -53,7 +59,8 @@ fn path_to_found<D: Disk>(
 
 // Of a path that leads to nothing. A link that leads nowhere would be replaced; what else has the name came meanwhile.
 fn new_path<D: Disk>(alloc: Global, disk: &mut D, path: &str) -> Result<PathTo, DiskFault>
-    ensures reaches { IfOk result (Reaches D.leads path.now) }
+    ensures reaches { IfOk result (Reaches D.leads D.answers path.now) }
+    ensures err { IfErr result (IsPathRefused D.answers path.now) }
     ensures crash { D.history disk.new ≡ D.history disk.old }
 {
     match disk.ask_name(path) {
@@ -67,29 +74,46 @@ fn new_path<D: Disk>(alloc: Global, disk: &mut D, path: &str) -> Result<PathTo, 
 }
 
 /// The file at a path, which a save may replace; `None` where nothing is there.
-#[tactic(auto, using(crate::proofs::Opened::where_opened))]
 pub(crate) fn old_at<D: Disk>(
     disk: &mut D,
     path: &str,
     target: &Target<'_, D::Opened>,
 ) -> Result<Option<Found>, DiskFault>
-    ensures ok { IfOk result (λ there. IfSome target.now.seen (λ seen. MayReplace seen.now target.now.path.now path.now there)) }
-    ensures opened { OnOk result (IfSome target.now.seen (λ seen. IsWhereOpened seen.now target.now.path.now path.now)) }
+    ensures there { IfOk result (IsReplaceable D.answers target.now.magic path.now) }
+    ensures ok { IfOk result (λ there. IfSome target.now.seen (λ seen. MayReplace D.finds seen.now target.now.path.now path.now there)) }
+    ensures free { OnOk result (IsFree D.answers D.finds target.now.magic target.now.path.now target.now.seen path.now) }
+    ensures err { IfErr result (IsOldRefused D.answers target.now.magic target.now.seen path.now) }
     ensures crash { D.history disk.new ≡ D.history disk.old }
 {
-    let there = there_at(disk, path)?;
-    if let Some(there) = &there {
-        see_replaceable(disk, path, there, target.magic)?;
-    }
+    let there = replaceable_at(disk, path, target.magic)?;
     if let Some(seen) = target.seen {
         seen.check(disk, target.path, path, there.as_ref())?;
     }
     Ok(there)
 }
 
+// What has the name of a path, an empty file or one that begins so; `None` where nothing has it.
+fn replaceable_at<D: Disk>(
+    disk: &mut D,
+    path: &str,
+    magic: [u8; 8],
+) -> Result<Option<Found>, DiskFault>
+    ensures there { IfOk result (IsReplaceable D.answers magic path.now) }
+    ensures err { IfErr result (IsNameRefused D.answers magic path.now) }
+    ensures crash { D.history disk.new ≡ D.history disk.old }
+{
+    let Some(there) = there_at(disk, path)? else {
+        return Ok(None);
+    };
+    see_replaceable(disk, path, &there, magic)?;
+    Ok(Some(there))
+}
+
 /// What has the name of a path; `None` where nothing has it.
 pub(crate) fn there_at<D: Disk>(disk: &mut D, path: &str) -> Result<Option<Found>, DiskFault>
-    ensures { D.history disk.new ≡ D.history disk.old }
+    ensures there { IfOk result (λ there. MatchOption there (D.answers (Unnamed path.now)) (λ found. D.answers (Named path.now found))) }
+    ensures err { IfErr result (IsTold D.answers Ask) }
+    ensures crash { D.history disk.new ≡ D.history disk.old }
 {
     match disk.ask_name(path) {
         Ok(there) => Ok(Some(there)),
@@ -105,7 +129,9 @@ fn see_replaceable<D: Disk>(
     there: &Found,
     magic: [u8; 8],
 ) -> Result<(), DiskFault>
-    ensures { D.history disk.new ≡ D.history disk.old }
+    ensures ok { OnOk result (IsReplaceableFile D.answers magic path.now there.now) }
+    ensures err { IfErr result (IsFileRefused D.answers magic path.now there.now) }
+    ensures crash { D.history disk.new ≡ D.history disk.old }
 {
     if there.kind != Kind::Regular {
         return Err(DiskFault::Changed);

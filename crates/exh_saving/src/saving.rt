@@ -1,8 +1,9 @@
 //! A save.
-ghost use Rattle.std.specs.Prelude.{◌≡◌, ◌⊎◌, ℕ, IfOk, IfSome, List, None, OnErr, OnOk};
+ghost use Rattle.std.specs.Prelude.{◌≡◌, ◌⊎◌, ℕ, IfNone, IfOk, IfSome, IsSome, List, None, OnErr, OnOk};
 ghost use Rattle.std.specs.Io.KnownBytes.{Appends};
 ghost use Rattle.exh_disk.specs.declared.stage.Stage.TheVariants.{Settled};
-ghost use Rattle.exh_saving.specs.Saved.{IsSaved, IsWhereOpened, SavesAt};
+ghost use Rattle.exh_saving.specs.Replaced.{IsFree, LeadsToDevice};
+ghost use Rattle.exh_saving.specs.Saved.{IsSaved, SavesAt};
 
 use crate::beside::save_beside;
 use crate::path::{PathTo, path_to};
@@ -38,12 +39,13 @@ pub fn save<D: Disk, S: Source, V: Watch>(
 ) -> (Result<Saved<D::File>, DiskFault>, S)
     ensures bytes { IfOk result.0 (λ saved. IfSome saved.file (λ file. Appends D.unwritten (D.holds file) (S.bytes source))) }
     ensures settled { IfOk result.0 (λ saved. IfSome saved.file (λ file. D.stage file ≡ Settled)) }
+    ensures device { IfOk result.0 (λ saved. IfNone saved.file (LeadsToDevice D.answers target.now.path.now)) }
     ensures source { (result.1 ≡ source) ⊎ S.leaves source result.1 }
     // At each moment of the call a crash leaves at the path, without links, what it could leave there before, or the new file.
-    // Where the path is named as a file was that was opened, it is without links the one at which that was.
+    // A file comes there only where nothing is, or what may be replaced.
     ensures crash { (whole : List ℕ) × ((whole ≡ target.now.path.now) ⊎ D.leads target.now.path.now whole)
-        × SavesAt (D.history disk.old whole) (D.history disk.new whole) (IsSaved D.unwritten (S.bytes source)) result.0
-        × IfOk result.0 (λ saved. IfSome saved.file (λ _. IfSome target.now.seen (λ seen. IsWhereOpened seen.now target.now.path.now whole))) }
+        × SavesAt (D.history disk.old whole) (D.history disk.new whole) D.holds (IsSaved D.unwritten (S.bytes source)) result.0
+        × IfOk result.0 (λ saved. IfSome saved.file (λ _. IsFree D.answers D.finds target.now.magic target.now.path.now target.now.seen whole)) }
 {
     match path_to(alloc, disk, target.path) {
         Ok(PathTo::File(path)) => save_file(alloc, disk, &path, target, source, watch),
@@ -63,9 +65,10 @@ fn save_file<D: Disk, S: Source, V: Watch>(
 ) -> (Result<Saved<D::File>, DiskFault>, S)
     ensures bytes { IfOk result.0 (λ saved. IfSome saved.file (λ file. Appends D.unwritten (D.holds file) (S.bytes source))) }
     ensures settled { IfOk result.0 (λ saved. IfSome saved.file (λ file. D.stage file ≡ Settled)) }
-    ensures opened { OnOk result.0 (IfSome target.now.seen (λ seen. IsWhereOpened seen.now target.now.path.now path.now)) }
+    ensures written { IfOk result.0 (λ saved. IsSome saved.file) }
+    ensures free { OnOk result.0 (IsFree D.answers D.finds target.now.magic target.now.path.now target.now.seen path.now) }
     ensures source { (result.1 ≡ source) ⊎ S.leaves source result.1 }
-    ensures crash { SavesAt (D.history disk.old path.now) (D.history disk.new path.now) (IsSaved D.unwritten (S.bytes source)) result.0 }
+    ensures crash { SavesAt (D.history disk.old path.now) (D.history disk.new path.now) D.holds (IsSaved D.unwritten (S.bytes source)) result.0 }
 {
     let (saved, source) = save_beside(alloc, disk, path, target, source, watch);
     match saved {

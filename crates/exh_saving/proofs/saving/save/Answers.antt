@@ -1,6 +1,6 @@
-use Rattle.std.proofs.Common.{◌≡◌, ◌∙◌, ap, inl, refl, Err}
+use Rattle.std.proofs.Common.{◌≡◌, inl, refl, Err}
 use Rattle.exh_saving.proofs.Moments.{stays_at}
-use Rattle.exh_saving.proofs.Opened.{at_no_file}
+use Rattle.exh_saving.proofs.NoFile.{at_no_file, where_none, where_written}
 use Rattle.exh_saving.proofs.saving.save.Goals as goal
 
 -- what stands at the path that was named stays there
@@ -8,10 +8,17 @@ pub returns-in-Ok-Device-clause-crash : goal.returns-in-Ok-Device-clause-crash
 returns-in-Ok-Device-clause-crash g c =
     let path = c.args.target.now.path.now in
     let same : g.D.Disk.history c.save_to_device.new.disk path ≡ g.D.Disk.history c.args.disk.now path = cc in
-    (path, inl refl, stays_at _ _ _ c.save_to_device.result.0 same c.save_to_device.ensures.file, at_no_file c.save_to_device.result.0 _ c.save_to_device.ensures.file)
+    (path, inl refl, stays_at _ _ g.D.Disk.holds _ c.save_to_device.result.0 same c.save_to_device.ensures.file, at_no_file c.save_to_device.result.0 _ c.save_to_device.ensures.file)
 
 pub returns-in-Err-clause-crash : goal.returns-in-Err-clause-crash
 returns-in-Err-clause-crash g c =
     let path = c.args.target.now.path.now in
     let same : g.D.Disk.history c.path_to.new.disk path ≡ g.D.Disk.history c.args.disk.now path = cc in
-    (path, inl refl, stays_at _ _ _ (Err c.in-Err.fault) same tt, tt)
+    (path, inl refl, stays_at _ _ g.D.Disk.holds _ (Err c.in-Err.fault) same tt, tt)
+
+-- a device was written, or a file
+pub returns-in-Ok-Device-clause-device : goal.returns-in-Ok-Device-clause-device
+returns-in-Ok-Device-clause-device g c = where_none c.save_to_device.result.0 _ (rw c.in-Ok-Device.field-0-is at c.in-Ok-Device.ensures.reaches)
+
+pub returns-in-Ok-File-clause-device : goal.returns-in-Ok-File-clause-device
+returns-in-Ok-File-clause-device g c = where_written c.save_file.result.0 _ c.save_file.ensures.written

@@ -11,4 +11,4 @@ returns-in-Ok-clause-crash g c =
     let new = g.D.Disk.history c.save_beside-saved.new.disk c.args.path.now in
     let placed : new ≡ saved_history old has c.in-Ok.folder = search rules in
     let bytes : Appends g.D.Disk.unwritten has (g.S.Source.bytes c.args.source) = search rules in
-    saved_at old new has c.in-Ok.folder _ c.in-Ok.file placed bytes
+    saved_at old new g.D.Disk.holds c.in-Ok.folder _ c.in-Ok.file placed bytes

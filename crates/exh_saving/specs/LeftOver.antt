@@ -1,0 +1,16 @@
+-- What a killed save may have left beside a path.
+use Rattle.std.specs.Prelude.{◌≡◌, ◌⊎◌, ℕ, IsSomeAnd, List, Option, min, take}
+use Rattle.exh_disk.specs.declared.found.Found.{Found}
+use Rattle.exh_disk.specs.declared.found.Head.{Head}
+use Rattle.exh_disk.specs.declared.found.Kind.TheVariants.{Regular}
+use Rattle.exh_disk.specs.declared.found.Runner.{Runner}
+
+-- a regular file of one name, of whom the program runs for, or of whose the old file is
+pub record IsLeftOver (found : Found) (runner : Option Runner) (old : Option Found) : Type 0 where
+  pub regular : found.kind ≡ Regular
+  pub alone : found.links ≡ 1
+  pub owner : IsSomeAnd runner (λ runner. found.owner ≡ runner.user) ⊎ IsSomeAnd old (λ old. found.owner ≡ old.owner)
+
+-- a file has these bytes first, as far as it goes
+abbrev pub BeginsAs : Head → List ℕ → Type 0
+BeginsAs head magic = take (min head.found.size 8) head.bytes ≡ take (min head.found.size 8) magic
