@@ -45,6 +45,7 @@ impl<'r> Store<'r> {
     ) -> Result<Store<'r>, StoreError>
         ensures new { IfOk result (λ store. IsNew settings store.map) }
         ensures held { IfOk result (λ store. IsHeld store.file) }
+        ensures pending { IfOk result (λ store. IsEmpty store.pending) }
     {
         make(rt, path, settings)?;
         let mut store = Store::open(rt, path)?;
@@ -59,6 +60,7 @@ impl<'r> Store<'r> {
     fn is_new(&mut self, settings: Settings) -> Result<bool, StoreError>
         ensures new { IfOk result (λ is. IsTrue is → IsNew settings self.new.map) }
         ensures file { self.new.file ≡ self.old.file }
+        ensures pending { self.new.pending ≡ self.old.pending }
     {
         let is_empty = self.pairs()?.len() == 0;
         Ok(is_empty && self.settings().are_same(&settings))
@@ -105,6 +107,7 @@ impl<'r> Store<'r> {
         settings: Settings,
     ) -> Result<Store<'r>, StoreError>
         ensures held { IfOk result (λ store. IsHeld store.file) }
+        ensures pending { IfOk result (λ store. IsEmpty store.pending) }
     {
         match Store::open(rt, path) {
             Err(StoreError::Absent) => match Store::create(rt, path, settings) {
