@@ -13,8 +13,8 @@ use exh_file::{Draft, FileForm, Opened, PlacedForm, Stamps};
 use exh_frames::FileStore;
 use exh_in_place::{answer_in_place, recover_at, save_in_place};
 use exh_map::{FileMap, StoreError};
-use exh_pending::Pending;
 use exh_path::{OpenedFile, SystemDisk, SystemFile, open_above};
+use exh_pending::Pending;
 use exh_saving::Saved;
 use exh_system::{WAIT, above_limit, draw_stamp, front_of, is_at, lock_soon};
 use std::fs::File;
@@ -26,6 +26,7 @@ const TRIES: u32 = 100;
 
 // Of how many pages of a file one may be changed by a call of a commit in place, and how many calls are in any case.
 const PAGES_OF_A_CALL: usize = 8;
+
 const FEW_CALLS: usize = 16;
 
 /// The page file of a path, which is locked.
@@ -126,11 +127,7 @@ impl HeldFile {
     }
 
     // Saves a map by a copy of its wards.
-    fn save_all(
-        &mut self,
-        rt: &HostRuntime,
-        map: &mut FileMap<FileStore>,
-    ) -> Result<(), StoreError>
+    fn save_all(&mut self, rt: &HostRuntime, map: &mut FileMap<FileStore>) -> Result<(), StoreError>
         ensures kept { KeepsMap map.old map.new }
         ensures settings { settings_in map.new ≡ settings_in map.old }
     {

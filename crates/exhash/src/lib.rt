@@ -2,8 +2,8 @@
 //! to a page file.
 #![tactic(auto)]
 
-pub use direct::Direct;
 pub use calls_commit::commit_calls;
+pub use direct::Direct;
 pub use disk_commit::commit_files;
 pub use exh_backup::{BackupFault, backup};
 pub use exh_keyer::AnyKeyer as Keyer;
