@@ -149,10 +149,14 @@ impl HeldFile {
         }
         let mut file = self.seen.opened();
         file.rewind()?;
-        match read_whole(rt.alloc(), file)? {
-            (_, FileForm::Placed(there)) if there.stamp == form.stamp => *form = there,
-            _ => return Err(StoreError::Changed),
+        let (_wards, found) = read_whole(rt.alloc(), file)?;
+        let FileForm::Placed(there) = found else {
+            return Err(StoreError::Changed);
+        };
+        if there.stamp != form.stamp {
+            return Err(StoreError::Changed);
         }
+        *form = there;
         self.has_grown = false;
         Ok(())
     }
