@@ -1,4 +1,4 @@
-"""How many bytes a commit of one put writes, over files of many pages."""
+"""How many bytes a commit of one put reads and writes, over files of many pages."""
 
 import struct
 import tempfile
@@ -15,6 +15,8 @@ from .store_trials import asked, store_run
 FEW = 1000
 # A put of a new key changes its page, and the header, which has the stamps.
 OF_A_PUT = 2
+# It reads the header, at most 20 blocks of the walk to the key, and the page; the header and the log's more than once.
+READ_OF_A_PUT = 32
 # For how long a file of many pages may be opened.
 OPENING = 600
 
@@ -74,8 +76,21 @@ def written(told):
     return counts
 
 
+def bytes_read(run):
+    """The bytes that a run has read until now, as the system counts them."""
+    counts = dict(line.split(": ") for line in Path(f"/proc/{run.run.pid}/io").read_text().splitlines())
+    return int(counts["rchar"])
+
+
+class Costs(NamedTuple):
+    """The bytes that a commit read, and those that it wrote to each file."""
+
+    read: int
+    written: dict
+
+
 def commit_of_a_put(program, library, pages, room):
-    """The bytes that a commit of one put writes to each file, over one of so many pages."""
+    """What a commit of one put costs over a file of so many pages."""
     with tempfile.TemporaryDirectory(dir=room) as folder, tempfile.TemporaryFile() as tells:
         with Path(folder, PLACE).open("wb") as file:
             lay_many(file, pages)
@@ -85,22 +100,26 @@ def commit_of_a_put(program, library, pages, room):
             if run.answer(OPENING) != "done":
                 raise Wrong(f"a file of {pages} pages isn't opened")
             asked(run, {"put k v": "new"})
+            before = bytes_read(run)
             run.ask("commit")
             if run.answer(OPENING) != "done":
                 raise Wrong(f"a file of {pages} pages isn't committed")
+            read = bytes_read(run) - before
             run.end()
         tells.seek(0)
-        return written(tells.read())
+        return Costs(read, written(tells.read()))
 
 
 def wrong_counts(program, library, pages, room):
-    """What is wrong of the bytes that a commit of one put writes over so many pages, beside a file of few; or None."""
+    """What is wrong of what a commit of one put costs over so many pages, beside a file of few; or None."""
     try:
         few, many = (commit_of_a_put(program, library, count, room) for count in (FEW, pages))
     except Wrong as what:
         return str(what)
-    if few.get(PLACE) != OF_A_PUT * BLOCK:
-        return f"of {FEW} pages it writes {few} bytes"
-    if set(many) - set(few) or any(many[name] > few[name] for name in many):
-        return f"of {pages} pages it writes {many} bytes, and of {FEW} pages {few}"
+    if few.written.get(PLACE) != OF_A_PUT * BLOCK:
+        return f"of {FEW} pages it writes {few.written} bytes"
+    if set(many.written) - set(few.written) or any(many.written[name] > few.written[name] for name in many.written):
+        return f"of {pages} pages it writes {many.written} bytes, and of {FEW} pages {few.written}"
+    if max(few.read, many.read) > READ_OF_A_PUT * BLOCK:
+        return f"of {pages} pages it reads {many.read} bytes, and of {FEW} pages {few.read}"
     return None

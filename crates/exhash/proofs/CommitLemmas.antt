@@ -1,39 +1,26 @@
 -- What a draft of a map's wards has, and what is left of a file over which it is saved.
-use Rattle.std.proofs.Common.{◌≡◌, ℕ, ◌^◌, Bool, List, [], ◌∷◌, ◌++◌, map, Result, Ok, Err, IfOk, inl, inr, refl, sym, ap, ap₂, ◌∙◌, subst, arith}
+use Rattle.std.proofs.Common.{◌≡◌, ℕ, Bool, List, inl, inr, refl, sym, ap, ap₂, ◌∙◌, subst}
 use Rattle.std.specs.FinMap as fin
-use Rattle.std.specs.List.{flat_map}
-use Rattle.std.proofs.lemmas.Grind.{flat_map-append}
-use Rattle.std.proofs.lemmas.List.{map-append}
 use Rattle.sqlite_disk.specs.declared.Disk.{Ghosts}
 use Rattle.sqlite_disk.specs.Disk.{Only}
 use Rattle.sqlite_wal.specs.Files.{seen_image}
 use Rattle.sqlite_wal.specs.Recovery.{Image}
-use Rattle.exh_keyer.specs.declared.any_keyer.AnyKeyer.{AnyKeyer}
-use Rattle.exh_keyer.specs.Pseudokey.{any_pseudokey}
-use Rattle.exh_page.specs.KeyMap.{KeyMap, pair_of}
-use Rattle.exh_page.specs.Page.{records_of}
+use Rattle.exh_page.specs.KeyMap.{KeyMap}
 use Rattle.exh_page.specs.declared.page.Page.{Page}
 use Rattle.exh_legal.specs.Pages.{map_of}
 use Rattle.exh_format.specs.PageFile.{pages_of}
-use Rattle.exh_ward.specs.WardState.{WardState}
 use Rattle.exh_commit.specs.FilePages.{Leaves, LeavesAlone, StandsFor}
 use Rattle.exh_file.specs.Draft.{DraftState, IsGrown, IsSaving, bytes_in}
-use Rattle.exh_file.specs.FileChange.{AreParts, HasMap, maps_in}
+use Rattle.exh_file.specs.FileChange.{HasMap}
 use Rattle.exh_file.specs.Opened.{AreWardsOf, OpenedState}
 use Rattle.exh_file.specs.Placing.{IsPlacedSaving, placed_file, tables_of_all}
-use Rattle.exh_file.specs.Reopened.{IsReopened}
-use Rattle.exh_file.specs.Saved.{pages_of_all}
 use Rattle.exh_file.specs.declared.placing.Form.{Form}
 use Rattle.exh_file.specs.declared.placing.Placing.{Placing}
 use Rattle.exh_file.specs.declared.placing.Stamps.{Stamps}
 use Rattle.exh_paged.specs.CallChange.{HasPairs}
 use Rattle.exh_paged.specs.Saving.{IsOldOrSaved, IsSavedOver}
 use Rattle.exhash.specs.Commit.{Drafts, IsCommitted, IsOldOrCommitted}
-use Rattle.exh_map.specs.FileMap.{KeepsMap}
-use Rattle.exh_map.specs.Pairs.{pairs_in, pairs_of}
-use Rattle.exh_map.specs.declared.store_error.StoreError.{StoreError}
 use Rattle.exh_map.proofs.AgainLemmas.{all_pairs}
-use Rattle.exh_map.proofs.LeftLemmas.{maps_alike, own_map, same_ward}
 use Rattle.exh_map.proofs.WholeMap.{whole_is}
 
 -- ---- the pairs of a page file

@@ -1,3 +1,4 @@
+pub mod CallsLemmas
 pub mod CommitLemmas
 pub mod SizeLemmas
 pub mod StoreLemmas

@@ -1,7 +1,6 @@
 -- What is answered of a key and values by their sizes.
-use Rattle.std.proofs.Common.{◌≡◌, ◌⊎◌, ℕ, ◌<◌, ◌≤◌, List, [], ◌∷◌, Result, Ok, Err, IfErr, OnOk, length, inl, inr, sym, ap, ◌∙◌, arith}
+use Rattle.std.proofs.Common.{◌≡◌, ℕ, ◌<◌, List, [], ◌∷◌, Result, Ok, Err, IfErr, length, inl, inr, sym, ap, ◌∙◌, arith}
 use Rattle.exh_page.specs.declared.key.TheConstants.{KEY_LIMIT}
-use Rattle.exh_page.specs.declared.value.TheConstants.{VALUE_LIMIT}
 use Rattle.exh_map.specs.CallFault.{IsKeyFault, IsValueFault}
 use Rattle.exh_map.specs.Sizes.{AreValues, IsKey, IsOther, IsSizeFault, IsSized, IsValue, IsValuesFault}
 use Rattle.exh_map.specs.declared.store_error.StoreError.{StoreError}

@@ -3,7 +3,8 @@ ghost use Rattle.std.specs.Prelude.{IfOk, IsTrue};
 ghost use Rattle.sqlite_disk.specs.Disk.{Only};
 
 use crate::three_pairs::third_version;
-use crate::{Key, Value, commit_files};
+use crate::{Key, Value, commit_calls, commit_files};
+use exh_calls::Call;
 use exh_file::{Stamps, open};
 use exh_map::{FileMap, StoreError};
 use sqlite_disk::{Disk, Files, Memory};
@@ -74,6 +75,42 @@ fn commits_over_files_in_memory(rt: HostRuntime) -> Result<(), Fail> {
 fn another_state_is_not_saved_over(rt: HostRuntime) -> Result<(), Fail> {
     let (refused, db) = committed(rt.alloc(), 8)?;
     assert!(rt; matches!(refused, Err(StoreError::Changed)));
+    assert!(rt; db.bytes() == third_version(rt.alloc())?.as_slice());
+    Ok(())
+}
+
+// What is left of the file after a put more was made in it, which should have this stamp.
+fn called(alloc: Global, stamp: u64) -> Result<(Result<u64, StoreError>, Memory), Fail> {
+    let bytes = third_version(alloc)?;
+    let (log, db) = files_of(alloc, &bytes)?;
+    let files = Files {
+        log: durable(log)?,
+        db: durable(db)?,
+    };
+    let put = Call::Put {
+        key: Key::from_bytes(b"\x20")?,
+        value: Value::from_bytes(b"z")?,
+    };
+    let (answer, files) = commit_calls(alloc, files, options(), stamp, &[put], 9);
+    Ok((answer, files.db))
+}
+
+#[test]
+fn calls_are_made_in_files_in_memory(rt: HostRuntime) -> Result<(), Fail> {
+    let (answer, db) = called(rt.alloc(), 7)?;
+    assert!(rt; matches!(answer, Ok(9)));
+    let mut bytes = db.bytes();
+    let mut map = FileMap::new(open(rt.alloc(), &mut bytes)?);
+    assert_eq!(rt; map.pairs(rt.alloc())?.len(), 4);
+    let value = map.get(&Key::from_bytes(b"\x20")?)?;
+    assert_eq!(rt; value, Some(Value::from_bytes(b"z")?));
+    Ok(())
+}
+
+#[test]
+fn no_calls_are_made_in_another_state(rt: HostRuntime) -> Result<(), Fail> {
+    let (answer, db) = called(rt.alloc(), 8)?;
+    assert!(rt; matches!(answer, Err(StoreError::Changed)));
     assert!(rt; db.bytes() == third_version(rt.alloc())?.as_slice());
     Ok(())
 }

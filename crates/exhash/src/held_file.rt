@@ -7,19 +7,27 @@ use crate::drafting::drafted;
 use crate::new_file::{save_draft, synchronized};
 use crate::reading::read_whole;
 use exh_backup::opened_at;
+use exh_calls::Call;
+use exh_disk::DiskFault;
 use exh_file::{Draft, FileForm, Opened, PlacedForm, Stamps};
 use exh_frames::FileStore;
-use exh_in_place::{recover_at, save_in_place};
+use exh_in_place::{answer_in_place, recover_at, save_in_place};
 use exh_map::{FileMap, StoreError};
 use exh_path::{OpenedFile, SystemDisk, SystemFile, open_above};
+use exh_pending::Pending;
 use exh_saving::Saved;
 use exh_system::{WAIT, above_limit, draw_stamp, front_of, is_at, lock_soon};
 use std::fs::File;
-use std::io::ErrorKind;
+use std::io::{ErrorKind, Seek};
 use std::{fs, io};
 
 // How often a path is opened anew to which another file came before it was locked.
 const TRIES: u32 = 100;
+
+// Of how many pages of a file one may be changed by a call of a commit in place, and how many calls are in any case.
+const PAGES_OF_A_CALL: usize = 8;
+
+const FEW_CALLS: usize = 16;
 
 /// The page file of a path, which is locked.
 #[derive(Drop)]
@@ -29,6 +37,8 @@ pub(crate) struct HeldFile {
     // Its lock, where it came of a save of its own.
     lock: Option<SystemFile>,
     form: FileForm,
+    // Calls were made in it since, which may have added pages that the form hasn't.
+    has_grown: bool,
 }
 
 impl HeldFile {
@@ -62,18 +72,29 @@ impl HeldFile {
         if front_of(&file)?.is_some() {
             recover_at(rt, path, &file)?;
         }
-        let seen = SystemDisk::new(rt).seen(path, file)?;
+        let seen = seen_of(rt, path, file)?;
         let (opened, form) = read_whole(rt.alloc(), seen.opened())?;
         let held = HeldFile {
             path: String::from_str(rt.alloc(), path)?,
             seen,
             lock: None,
             form,
+            has_grown: false,
         };
         Ok((held, opened))
     }
 
-    /// Saves a map as the file: of version 3 the blocks that differ, of another the whole file.
+    /// How many calls are made in the file where it is saved, rather than that it is compared with all pages; of version 1
+    /// or 2 none.
+    pub(crate) fn call_limit(&self) -> usize {
+        match &self.form {
+            FileForm::Placed(form) => FEW_CALLS.max(form.lows.len() / PAGES_OF_A_CALL),
+            FileForm::Plain => 0,
+        }
+    }
+
+    /// Saves a map as the file: of version 3 by the calls that are pending, where they are known, else by the blocks that
+    /// differ; of another the whole file.
     ///
     /// `Vanished`: it is no longer at its path. `Changed`: another process changed it all the same. `Unsure`: it may be saved.
     /// `Unheld`: it is saved, but no longer held. `Unsynchronized`: it is saved, but a power failure may take it back.
@@ -81,16 +102,63 @@ impl HeldFile {
         &mut self,
         rt: &HostRuntime,
         map: &mut FileMap<FileStore>,
+        pending: &Pending,
     ) -> Result<(), StoreError>
         ensures kept { KeepsMap map.old map.new }
         ensures settings { settings_in map.new ≡ settings_in map.old }
     {
         self.see_there(rt)?;
+        match pending.calls() {
+            Some(calls) => self.answer(rt, calls),
+            None => self.save_all(rt, map),
+        }
+    }
+
+    // Makes calls in the file, which is of version 3.
+    fn answer(&mut self, rt: &HostRuntime, calls: &[Call]) -> Result<(), StoreError> {
+        let FileForm::Placed(form) = &mut self.form else {
+            return Err(StoreError::OldVersion);
+        };
+        let file = self.seen.opened();
+        let answered = answer_in_place(rt, &self.path, file, form.stamp, calls, WAIT)?;
+        form.stamp = answered.stamp;
+        self.has_grown = true;
+        Ok(())
+    }
+
+    // Saves a map by a copy of its wards.
+    fn save_all(&mut self, rt: &HostRuntime, map: &mut FileMap<FileStore>) -> Result<(), StoreError>
+        ensures kept { KeepsMap map.old map.new }
+        ensures settings { settings_in map.new ≡ settings_in map.old }
+    {
+        self.see_places(rt)?;
         let copy = map.copied(rt.alloc())?;
         match &mut self.form {
             FileForm::Placed(form) => save_placed(rt, &self.path, &self.seen, form, map, copy),
             FileForm::Plain => self.save_whole(rt, copy),
         }
+    }
+
+    // Reads in which places the file has its pages, where calls were made in it.
+    fn see_places(&mut self, rt: &HostRuntime) -> Result<(), StoreError> {
+        let FileForm::Placed(form) = &mut self.form else {
+            return Ok(());
+        };
+        if !self.has_grown {
+            return Ok(());
+        }
+        let mut file = self.seen.opened();
+        file.rewind()?;
+        let (_wards, found) = read_whole(rt.alloc(), file)?;
+        let FileForm::Placed(there) = found else {
+            return Err(StoreError::Changed);
+        };
+        if there.stamp != form.stamp {
+            return Err(StoreError::Changed);
+        }
+        *form = there;
+        self.has_grown = false;
+        Ok(())
     }
 
     // Sees that the file is still at its path.
@@ -120,6 +188,17 @@ impl HeldFile {
             }
             Err(error) => Err(StoreError::Unheld(error)),
         }
+    }
+}
+
+// A file that was opened at a path, so that a save sees whether it is still there as it was.
+fn seen_of(rt: &HostRuntime, path: &str, file: File) -> Result<OpenedFile, StoreError> {
+    let mut disk = SystemDisk::new(rt);
+    let seen = disk.seen(path, file)?;
+    // Where the system didn't say what it is, each save would be refused.
+    match seen.check(&mut disk, path, path, None) {
+        Err(DiskFault::System { error, .. }) => Err(StoreError::from(error)),
+        _ => Ok(seen),
     }
 }
 

@@ -2,6 +2,7 @@
 //! to a page file.
 #![tactic(auto)]
 
+pub use calls_commit::commit_calls;
 pub use direct::Direct;
 pub use disk_commit::commit_files;
 pub use exh_backup::{BackupFault, backup};
@@ -11,6 +12,7 @@ pub use exh_page::{KEY_LIMIT, Key, VALUE_LIMIT, Value};
 pub use new_file::make;
 pub use store::Store;
 
+mod calls_commit;
 mod change_at;
 mod direct;
 mod disk_commit;

@@ -9,6 +9,7 @@ ghost use Rattle.exh_map.specs.FileMap.{IsGot, IsPut, IsPutNew, IsRemoved, IsRep
 ghost use Rattle.exh_map.specs.Pairs.{AreOnce, pairs_in};
 ghost use Rattle.exh_map.specs.Sizes.{IsSized};
 ghost use Rattle.exh_map.specs.declared.store_error.StoreError.TheVariants.{ReadOnly};
+ghost use Rattle.exh_pending.specs.Pending.{IsEmpty, KeepsPending};
 ghost use Rattle.exhash.specs.Store.{IsHeld, IsNew, IsReadOnly};
 
 use crate::held_file::HeldFile;
@@ -17,6 +18,7 @@ use crate::reading::read_still;
 use exh_frames::FileStore;
 use exh_map::{FileMap, Pairs, Put, PutNew, Settings, StoreError, Swap, key_of, value_of};
 use exh_page::Value;
+use exh_pending::Pending;
 use exh_system::WAIT;
 
 /// A page file that is opened whole: calls are answered in memory, and `commit` saves what they changed, all of it or
@@ -27,7 +29,8 @@ pub struct Store<'r> {
     map: FileMap<FileStore>,
     // The file, where it is held.
     file: Option<HeldFile>,
-    is_changed: bool,
+    // What was changed since the last commit.
+    pending: Pending,
 }
 
 impl<'r> Store<'r> {
@@ -43,6 +46,7 @@ impl<'r> Store<'r> {
     ) -> Result<Store<'r>, StoreError>
         ensures new { IfOk result (λ store. IsNew settings store.map) }
         ensures held { IfOk result (λ store. IsHeld store.file) }
+        ensures pending { IfOk result (λ store. IsEmpty store.pending) }
     {
         make(rt, path, settings)?;
         let mut store = Store::open(rt, path)?;
@@ -57,6 +61,7 @@ impl<'r> Store<'r> {
     fn is_new(&mut self, settings: Settings) -> Result<bool, StoreError>
         ensures new { IfOk result (λ is. IsTrue is → IsNew settings self.new.map) }
         ensures file { self.new.file ≡ self.old.file }
+        ensures pending { self.new.pending ≡ self.old.pending }
     {
         let is_empty = self.pairs()?.len() == 0;
         Ok(is_empty && self.settings().are_same(&settings))
@@ -69,6 +74,7 @@ impl<'r> Store<'r> {
     /// say.
     pub fn open(rt: &'r HostRuntime, path: &str) -> Result<Store<'r>, StoreError>
         ensures held { IfOk result (λ store. IsHeld store.file) }
+        ensures pending { IfOk result (λ store. IsEmpty store.pending) }
     {
         Store::open_within(rt, path, WAIT)
     }
@@ -80,13 +86,15 @@ impl<'r> Store<'r> {
         seconds: u64,
     ) -> Result<Store<'r>, StoreError>
         ensures held { IfOk result (λ store. IsHeld store.file) }
+        ensures pending { IfOk result (λ store. IsEmpty store.pending) }
     {
         let (file, opened) = HeldFile::open(rt, path, seconds)?;
+        let pending = Pending::new(rt.alloc(), file.call_limit());
         Ok(Store {
             rt,
             map: FileMap::new(opened),
             file: Some(file),
-            is_changed: false,
+            pending,
         })
     }
 
@@ -100,6 +108,7 @@ impl<'r> Store<'r> {
         settings: Settings,
     ) -> Result<Store<'r>, StoreError>
         ensures held { IfOk result (λ store. IsHeld store.file) }
+        ensures pending { IfOk result (λ store. IsEmpty store.pending) }
     {
         match Store::open(rt, path) {
             Err(StoreError::Absent) => match Store::create(rt, path, settings) {
@@ -134,7 +143,7 @@ impl<'r> Store<'r> {
             rt,
             map: FileMap::new(opened),
             file: None,
-            is_changed: false,
+            pending: Pending::new(rt.alloc(), 0),
         })
     }
 
@@ -152,6 +161,7 @@ impl<'r> Store<'r> {
         ensures got { IfOk result (λ answer. IsGot self.old.map key.now answer self.new.map) }
         ensures refused { IfErr result (IsCallFault key.now []) }
         ensures err { OnErr result (KeepsMap self.old.map self.new.map) }
+        ensures pending { self.new.pending ≡ self.old.pending }
         ensures settings { settings_in self.new.map ≡ settings_in self.old.map }
     {
         let key = key_of(key)?;
@@ -166,12 +176,13 @@ impl<'r> Store<'r> {
         ensures put { IfOk result (λ answer. IsPut self.old.map key.now value.now answer self.new.map) }
         ensures refused { IfErr result (IsCallFault key.now (value.now ∷ [])) }
         ensures err { OnErr result (KeepsMap self.old.map self.new.map) }
+        ensures pending { KeepsPending self.old.map self.old.pending self.new.map self.new.pending }
         ensures settings { settings_in self.new.map ≡ settings_in self.old.map }
     {
         let key = key_of(key)?;
         let value = value_of(value)?;
         let put = self.map.put(&key, &value)?;
-        self.is_changed |= !matches!(put, Put::Full);
+        self.pending.note_put(&key, &value, &put);
         Ok(put)
     }
 
@@ -182,12 +193,13 @@ impl<'r> Store<'r> {
         ensures put { IfOk result (λ answer. IsPutNew self.old.map key.now value.now answer self.new.map) }
         ensures refused { IfErr result (IsCallFault key.now (value.now ∷ [])) }
         ensures err { OnErr result (KeepsMap self.old.map self.new.map) }
+        ensures pending { KeepsPending self.old.map self.old.pending self.new.map self.new.pending }
         ensures settings { settings_in self.new.map ≡ settings_in self.old.map }
     {
         let key = key_of(key)?;
         let value = value_of(value)?;
         let put = self.map.put_new(&key, &value)?;
-        self.is_changed |= matches!(put, PutNew::New);
+        self.pending.note_put_new(&key, &value, &put);
         Ok(put)
     }
 
@@ -198,12 +210,13 @@ impl<'r> Store<'r> {
         ensures replaced { IfOk result (λ answer. IsReplaced self.old.map key.now value.now answer self.new.map) }
         ensures refused { IfErr result (IsCallFault key.now (value.now ∷ [])) }
         ensures err { OnErr result (KeepsMap self.old.map self.new.map) }
+        ensures pending { KeepsPending self.old.map self.old.pending self.new.map self.new.pending }
         ensures settings { settings_in self.new.map ≡ settings_in self.old.map }
     {
         let key = key_of(key)?;
         let value = value_of(value)?;
         let replaced = self.map.replace(&key, &value)?;
-        self.is_changed |= replaced.is_some();
+        self.pending.note_replaced(&key, &value, &replaced);
         Ok(replaced)
     }
 
@@ -214,11 +227,12 @@ impl<'r> Store<'r> {
         ensures removed { IfOk result (λ answer. IsRemoved self.old.map key.now answer self.new.map) }
         ensures refused { IfErr result (IsCallFault key.now []) }
         ensures err { OnErr result (KeepsMap self.old.map self.new.map) }
+        ensures pending { KeepsPending self.old.map self.old.pending self.new.map self.new.pending }
         ensures settings { settings_in self.new.map ≡ settings_in self.old.map }
     {
         let key = key_of(key)?;
         let removed = self.map.remove(&key)?;
-        self.is_changed |= removed.is_some();
+        self.pending.note_removed(&key, &removed);
         Ok(removed)
     }
 
@@ -229,13 +243,14 @@ impl<'r> Store<'r> {
         ensures swapped { IfOk result (λ answer. IsSwap self.old.map key.now old.now new.now answer self.new.map) }
         ensures refused { IfErr result (IsCallFault key.now (old.now ∷ new.now ∷ [])) }
         ensures err { OnErr result (KeepsMap self.old.map self.new.map) }
+        ensures pending { KeepsPending self.old.map self.old.pending self.new.map self.new.pending }
         ensures settings { settings_in self.new.map ≡ settings_in self.old.map }
     {
         let key = key_of(key)?;
         let old = value_of(old)?;
         let new = value_of(new)?;
         let swap = self.map.swap(&key, &old, &new)?;
-        self.is_changed |= matches!(swap, Swap::Swapped);
+        self.pending.note_swap(&key, &old, &new, &swap);
         Ok(swap)
     }
 
@@ -247,6 +262,7 @@ impl<'r> Store<'r> {
         ensures map { IfOk result (λ count. (whole : KeyMap) → HasMap self.old.map whole → count ≡ len whole) }
         ensures same { OnOk result (self.new.map ≡ self.old.map) }
         ensures err { OnErr result (KeepsMap self.old.map self.new.map) }
+        ensures pending { self.new.pending ≡ self.old.pending }
         ensures settings { settings_in self.new.map ≡ settings_in self.old.map }
     {
         Ok(self.pairs()?.len())
@@ -263,13 +279,15 @@ impl<'r> Store<'r> {
         ensures same { OnOk result (self.new.map ≡ self.old.map) }
         ensures err { OnErr result (KeepsMap self.old.map self.new.map) }
         ensures file { self.new.file ≡ self.old.file }
+        ensures pending { self.new.pending ≡ self.old.pending }
         ensures settings { settings_in self.new.map ≡ settings_in self.old.map }
     {
         Ok(self.map.pairs(self.rt.alloc())?)
     }
 
-    /// Saves what was changed since the last commit, if something was: of a file of version 3 the blocks that differ, of an
-    /// older one the whole file. On `Ok` it is on the disk. A crash leaves all of it or nothing.
+    /// Saves what was changed since the last commit, if something was: of a file of version 3 by the calls that changed it, or
+    /// where these are many by the blocks that differ, of an older one the whole file. On `Ok` it is on the disk. A crash
+    /// leaves all of it or nothing.
     ///
     /// `ReadOnly`: the store was opened to be read. `Vanished`, `Changed`: the file is no longer the one that was opened.
     /// `Unsure`: the change is saved or not, which the next open tells, and this store commits no more. `Unheld`: it is saved,
@@ -278,16 +296,18 @@ impl<'r> Store<'r> {
     pub fn commit(&mut self) -> Result<(), StoreError>
         ensures read { IsReadOnly self.old.file → result ≡ Err ReadOnly }
         ensures kept { KeepsMap self.old.map self.new.map }
+        ensures done { OnOk result (IsEmpty self.new.pending) }
+        ensures err { OnErr result (self.new.pending ≡ self.old.pending) }
         ensures settings { settings_in self.new.map ≡ settings_in self.old.map }
     {
         let Some(file) = &mut self.file else {
             return Err(StoreError::ReadOnly);
         };
-        if !self.is_changed {
+        if self.pending.is_empty() {
             return Ok(());
         }
-        file.save(self.rt, &mut self.map)?;
-        self.is_changed = false;
+        file.save(self.rt, &mut self.map, &self.pending)?;
+        self.pending = Pending::new(self.rt.alloc(), file.call_limit());
         Ok(())
     }
 

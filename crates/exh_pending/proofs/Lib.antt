@@ -1,0 +1,3 @@
+-- lemmas: of calls behind others, and of maps that they make
+pub mod NoteLemmas
+pub mod StoreLemmas

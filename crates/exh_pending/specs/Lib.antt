@@ -1,0 +1,2 @@
+-- calls that are pending
+pub mod Pending

@@ -1,0 +1,27 @@
+use Rattle.std.proofs.Common.{ℕ, List, Result, IfOk, subst}
+use Rattle.sqlite_wal.specs.Files.{seen_image}
+use Rattle.exh_commit.specs.FilePages.{LeavesAlone, StandsFor}
+use Rattle.exh_paged.specs.CallChange.{OfLegal}
+use Rattle.exh_paged.specs.CallsChange.{AreReplied}
+use Rattle.exh_paged.specs.declared.answered.Answered.{Answered}
+use Rattle.exh_paged.specs.declared.files_fault.FilesFault.{FilesFault}
+use Rattle.exhash.proofs.CallsLemmas.{calls_leave, calls_leave_alone}
+use Rattle.exhash.proofs.calls_commit.commit_calls.Goals as goal
+
+pub returns-in-Ok-clause-crash : goal.returns-in-Ok-clause-crash
+returns-in-Ok-clause-crash g c settings was old stands of =
+    let back = c.answer_over-answered.result.1 in
+    calls_leave settings was old of c.args.calls.now g.D.Truthful.is_truthful c.args.stamp g.D.Disk (back.log, back.db) (c.answer_over-answered.ensures.crash old stands)
+
+pub returns-in-Err-clause-crash : goal.returns-in-Err-clause-crash
+returns-in-Err-clause-crash g c settings was old stands of =
+    let back = c.answer_over-answered.result.1 in
+    calls_leave settings was old of c.args.calls.now g.D.Truthful.is_truthful c.args.stamp g.D.Disk (back.log, back.db) (c.answer_over-answered.ensures.crash old stands)
+
+pub returns-in-Ok-clause-ok : goal.returns-in-Ok-clause-ok
+returns-in-Ok-clause-ok g c settings was old stands of =
+    let back = c.answer_over-answered.result.1 in
+    let all : (bytes : List ℕ) → StandsFor (seen_image g.D.Disk c.args.files.log c.args.files.db) bytes → OfLegal bytes (λ file. LeavesAlone g.D.Disk (back.log, back.db) (AreReplied g.D.Truthful.is_truthful file c.args.calls.now c.args.stamp c.in-Ok.answered bytes)) =
+    subst (λ (said : Result Answered FilesFault). IfOk said (λ answered. (bytes : List ℕ) → StandsFor (seen_image g.D.Disk c.args.files.log c.args.files.db) bytes → OfLegal bytes (λ file. LeavesAlone g.D.Disk (back.log, back.db) (AreReplied g.D.Truthful.is_truthful file c.args.calls.now c.args.stamp answered bytes))))
+    c.in-Ok.is c.answer_over-answered.ensures.ok in
+    calls_leave_alone settings was old of c.args.calls.now g.D.Truthful.is_truthful c.args.stamp g.D.Disk (back.log, back.db) c.in-Ok.answered (all old stands)

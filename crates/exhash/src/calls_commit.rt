@@ -1,0 +1,57 @@
+//! Commits of calls over any disk.
+ghost use Rattle.std.specs.Prelude.{◌≡◌, ℕ, List, IfOk, IsTrue};
+ghost use Rattle.sqlite_disk.specs.Disk.{Only};
+ghost use Rattle.sqlite_wal.specs.Files.{seen_image};
+ghost use Rattle.exh_batch.specs.Batch.{map_after_all};
+ghost use Rattle.exh_commit.specs.FilePages.{Leaves, LeavesAlone, StandsFor};
+ghost use Rattle.exh_keyer.specs.Pseudokey.{any_pseudokey};
+ghost use Rattle.exh_keyer.specs.declared.any_keyer.AnyKeyer.{AnyKeyer};
+ghost use Rattle.exh_page.specs.KeyMap.{KeyMap};
+ghost use Rattle.exh_settings.specs.declared.file_settings.FileSettings.{FileSettings};
+ghost use Rattle.exhash.specs.Commit.{IsCommittedAs, IsFileOf, IsOldOrCommitted};
+
+use exh_calls::Call;
+use exh_commit::Truthful;
+use exh_in_place::Refused;
+use exh_map::StoreError;
+use exh_paged::answer_over;
+use sqlite_disk::Files;
+use sqlite_pager::Options;
+use std::alloc::Global;
+
+/// Makes the calls that changed a map since its page file of version 3 had it in that file, as one change. The file is opened
+/// with its log, whatever a crash left of them, and of its blocks those are read and written that the calls go to. Then it
+/// gives both back. The file has the stamp `before`, and gets `stamp` where a block changes; the answer is the one that it has
+/// then.
+///
+/// `Changed`: the file is another state than that. `Unsure`: the change may be saved, or was. Others: nothing was saved, as
+/// they say.
+pub fn commit_calls<D: Truthful + Drop>(
+    alloc: Global,
+    files: Files<D>,
+    options: Options,
+    before: u64,
+    calls: &[Call],
+    stamp: u64,
+) -> (Result<u64, StoreError>, Files<D>)
+    requires log { IsTrue (D.Disk.is_usable files.log) }
+    requires db { IsTrue (D.Disk.is_usable files.db) }
+
+    // After a restart, what is read is what is on the disk.
+    requires log_synced { Only (D.Disk.seen files.log) (D.Disk.may_leave files.log) }
+    requires db_synced { Only (D.Disk.seen files.db) (D.Disk.may_leave files.db) }
+
+    // However far it gets, a crash leaves the old bytes, or a page file with the pairs that the calls make of the old ones.
+    ensures crash { (settings : FileSettings AnyKeyer) (was : KeyMap) (old : List ℕ) → StandsFor (seen_image D.Disk files.log files.db) old → IsFileOf settings was old
+        → Leaves D.Disk (result.1.log, result.1.db) (IsOldOrCommitted D.Truthful.is_truthful (map_after_all settings.cap (any_pseudokey settings.keyer) was calls.now) old) }
+
+    // The file alone, without its log, has these and the stamp that is answered.
+    ensures ok { IfOk result.0 (λ now. (settings : FileSettings AnyKeyer) (was : KeyMap) (old : List ℕ) → StandsFor (seen_image D.Disk files.log files.db) old → IsFileOf settings was old
+        → LeavesAlone D.Disk (result.1.log, result.1.db) (IsCommittedAs D.Truthful.is_truthful (map_after_all settings.cap (any_pseudokey settings.keyer) was calls.now) now)) }
+{
+    let (answered, files) = answer_over(alloc, files, options, before, calls, stamp);
+    match answered {
+        Ok(answered) => (Ok(answered.stamp), files),
+        Err(fault) => (Err(StoreError::from(Refused::from(fault))), files),
+    }
+}
