@@ -1,5 +1,5 @@
 //! What one saver sees of a file system in memory.
-ghost use Rattle.std.specs.Prelude.{◌≡◌, ◌&&◌, None, Some, [], OnOk, OnErr, bytes_eq, string_bytes};
+ghost use Rattle.std.specs.Prelude.{◌≡◌, ◌&&◌, ⊤, None, Some, [], OnOk, OnErr, bytes_eq, string_bytes};
 ghost use Rattle.exh_disk.specs.History.{placed};
 ghost use Rattle.exh_disk_fakes.specs.Past.{history_at, known};
 
@@ -128,6 +128,10 @@ impl<B: Between + Drop> Disk for Side<'_, B> {
     ghost history = { λ side. history_at (known B.comes side.disk.now.past) };
 
     ghost leads = { λ named whole. whole ≡ named };
+
+    ghost answers = { λ _. ⊤ };
+
+    ghost finds = { λ _ _. ⊤ };
 
     fn runner(&mut self) -> io::Result<Runner> {
         self.enter()?;
