@@ -4,6 +4,7 @@ import contextlib
 import os
 import subprocess
 import tempfile
+import time
 from pathlib import Path
 
 from .bench import ENVIRONMENT
@@ -103,7 +104,16 @@ def small_room(program, files):
             laid(files, folder)
             yield Room(program, folder)
         finally:
-            subprocess.run(["umount", folder], check=True)
+            unmount(folder)
+
+
+def unmount(folder):
+    """Takes a file system away. A process that is just being started may hold its files for a moment."""
+    for _ in range(100):
+        if subprocess.run(["umount", folder], capture_output=True, check=False).returncode == 0:
+            return
+        time.sleep(0.1)
+    raise RuntimeError(f"{folder} isn't unmounted")
 
 
 def fill(filler, left):
