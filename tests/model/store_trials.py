@@ -19,7 +19,7 @@ from .page_file import bytes_of_file, put
 from .page_reader import Fault
 from .placed_file import DRAWN, placed_file
 from .store_program import MEMORY_REFUSED, REFUSED, StoreRun, Wrong
-from .trap_rooms import fill, small_room
+from .trap_rooms import fill, free, small_room
 from .version import CURRENT
 
 WAYS = {KILL: "killed", errno.ENOSPC: "no room", errno.EIO: "a fault of the device"}
@@ -277,7 +277,7 @@ def filled(program, version, errand, left):
             asked(run, {f"open {PLACE} 0": "done", **errand.lines})
             fill(filler, left)
             committed = run.told("commit")
-            filler.unlink()
+            free(filler)
             allowed = committed_again(run, errand, committed)
             run.end()
             see_next(program, room.folder, allowed)

@@ -116,6 +116,12 @@ def unmount(folder):
     raise RuntimeError(f"{folder} isn't unmounted")
 
 
+def free(filler):
+    """Gives back the room of what fills a file system, also where a process that is just being started holds it."""
+    os.truncate(filler, 0)
+    filler.unlink()
+
+
 def fill(filler, left):
     """Fills a file system up to so many blocks."""
     with filler.open("wb", buffering=0) as file:

@@ -10,7 +10,7 @@ from .page_reader import Live
 from .placed_change import block_of
 from .placed_file import EMPTY, OF_GROUP, SLOTS, Cell, header_of, page_block_at, walk_block_at
 from .rooms import SHARED_FOLDER, USERS
-from .trap_rooms import Wrong, fill, room_with, shared_room, small_room
+from .trap_rooms import Wrong, fill, free, room_with, shared_room, small_room
 
 LINK = "link.exh"
 # What each sentence of a refusal begins with.
@@ -288,7 +288,7 @@ def full_disk(program, _, alone):
             done = room.run(calling("put", key, "v"))
             if done.returncode not in (0, 1) or (done.returncode == 1) != bool(done.stderr):
                 raise Wrong(f"{left} blocks: status {done.returncode}: {done.stdout} {done.stderr[:200]}")
-            filler.unlink()
+            free(filler)
             room.has({**PAIRS, key: "v"} if done.returncode == 0 else PAIRS)
             room.wants(calling("put", key, "w"), 0)
             room.has({**PAIRS, key: "w"})
@@ -309,7 +309,7 @@ def full_disk_behind_the_log(program, _, alone):
             raise Wrong(f"status {done.returncode}: {done.stdout} {done.stderr[:200]}")
         for words, text in ((calling("get", key), b""), (["check", PLACE], b"refused 41\n")):
             room.is_let_be(words, "can't be copied into it: No space left on device (os error 28) (refused 41)", text=text)
-        filler.unlink()
+        free(filler)
         room.has(pairs)
         room.has_no_log()
 
