@@ -39,11 +39,7 @@ pub(crate) fn delete<W: Write>(run: &Run<'_>, keys: &Keys, output: &mut Output<'
 }
 
 // Takes several keys out.
-fn delete_several<W: Write>(
-    run: &Run<'_>,
-    keys: &[Key],
-    output: &mut Output<'_, W>,
-) -> Status
+fn delete_several<W: Write>(run: &Run<'_>, keys: &[Key], output: &mut Output<'_, W>) -> Status
     requires open { IsFalse (writer_failed output.old) }
     requires empty { pending output.old ≡ [] }
     ensures same_writer { SameWriter output.old output.new }

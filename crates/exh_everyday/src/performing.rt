@@ -35,11 +35,7 @@ pub fn perform(rt: &HostRuntime, request: &Request<'_>) -> Status {
 }
 
 // Runs an action, whose answer goes to an output.
-fn run_action<W: Write>(
-    run: &Run<'_>,
-    action: &Action<'_>,
-    output: &mut Output<'_, W>,
-) -> Status
+fn run_action<W: Write>(run: &Run<'_>, action: &Action<'_>, output: &mut Output<'_, W>) -> Status
     requires open { IsFalse (writer_failed output.old) }
     requires empty { pending output.old ≡ [] }
     ensures same_writer { SameWriter output.old output.new }
