@@ -178,8 +178,12 @@ impl HeldFile {
         }
         // The save takes the lock of the file that it replaces.
         self.lock = None;
-        let Saved { file, folder } =
-            save_draft(rt, &self.path, Some(&self.seen), Draft::plain(copy))?;
+        let Saved { file, folder } = save_draft(
+            rt,
+            &self.path,
+            Some(&self.seen),
+            Draft::plain(copy),
+        )?;
         match seen_at(rt, &self.path) {
             Ok(seen) => {
                 self.seen = seen;

@@ -9,10 +9,9 @@ use exh_saving::Saved;
 use exh_stream::{Console, Meter, Unit, Work};
 use exh_system::draw_stamp;
 use exh_ward::new_wards;
-use std::fs;
 use std::fs::{File, OpenOptions};
-use std::io;
 use std::io::{ErrorKind, Stderr};
+use std::{fs, io};
 
 /// Makes a page file of version 3 without pairs at a path at which nothing is, or an empty file. Where it fails an empty
 /// file may be left.
