@@ -1,3 +1,6 @@
--- what is printed, and how the program ends where a command is refused
+-- what is printed, how the program ends, what the library answers, and keys that are found one after the other
 pub mod Answers
 pub mod Endings
+pub mod Changes
+pub mod Founds
+pub mod Runs

@@ -1,6 +1,7 @@
 //! The run of a backup.
 ghost use Rattle.std.specs.Prelude.{◌≡◌};
-ghost use Rattle.exh_everyday.specs.Endings.{backup_status};
+ghost use Rattle.exh_everyday.specs.Endings.{backup_status, copied_status};
+ghost use Rattle.exh_everyday.specs.Runs.{BackupEnds};
 
 use crate::refusal::tell_refused;
 use crate::run::Run;
@@ -9,26 +10,37 @@ use exh_backup::{backup_within, unread_at};
 use exhash::{BackupFault, StoreError};
 
 /// Copies one state of the page file to a new path at which nothing is.
-pub(crate) fn back_up(run: &Run<'_>, new: &str) -> Status {
-    match backup_within(run.rt, run.path, new, run.seconds) {
+pub(crate) fn back_up(run: &Run<'_>, new: &str) -> Status
+    ensures { BackupEnds result }
+{
+    let copied = backup_within(run.rt, run.path, new, run.seconds);
+    end_backup(run, new, copied)
+}
+
+// Ends a backup by what the library answers.
+fn end_backup(run: &Run<'_>, new: &str, copied: Result<(), BackupFault>) -> Status
+    ensures { result ≡ copied_status copied }
+{
+    match copied {
         Ok(()) => Status::Done,
-        Err(fault) => {
-            let fault = unread(run, fault);
-            match &fault {
-                BackupFault::File(cause) => tell_refused(run.rt, run.path, cause),
-                BackupFault::Copy(cause) => tell_refused(run.rt, new, cause),
-            }
-            backup_status(&fault)
-        }
+        Err(fault) => refuse_backup(run, new, fault),
     }
 }
 
-// The fault as it is said: a file that doesn't begin as a page file is none, whatever its length.
-fn unread(run: &Run<'_>, fault: BackupFault) -> BackupFault {
+// Says why there is no copy, and gives the status with which the program ends. A file that doesn't begin as a page file is none,
+// whatever its length.
+fn refuse_backup(run: &Run<'_>, new: &str, fault: BackupFault) -> Status
+    ensures { result ≡ backup_status fault }
+{
+    let status = backup_status(&fault);
     match fault {
-        BackupFault::File(cause) => BackupFault::File(unread_at(run.rt, run.path, cause)),
-        fault => fault,
+        BackupFault::File(cause) => {
+            let cause = unread_at(run.rt, run.path, cause);
+            tell_refused(run.rt, run.path, &cause);
+        }
+        BackupFault::Copy(cause) => tell_refused(run.rt, new, &cause),
     }
+    status
 }
 
 // The status where there is no copy, or its folder isn't synchronized.

@@ -1,13 +1,21 @@
 //! Changes of one key: made in place by a file of version 3, else in a store that is saved whole.
+ghost use Rattle.std.specs.Prelude.{◌≡◌, [], IfOk, IsFalse};
+ghost use Rattle.exh_stream.specs.Output.{SameWriter, held, pending, writer_failed};
+ghost use Rattle.exh_everyday.specs.Changes.{IsAnswerTo};
+ghost use Rattle.exh_everyday.specs.Endings.{Ends, change_ended};
+ghost use Rattle.exh_everyday.specs.Runs.{ChangeEnds};
 
 use crate::answer::Answer;
+use crate::changed_file::ChangedFile;
 use crate::printing::tell_answer;
 use crate::refusal::refuse_change;
 use crate::run::Run;
 use crate::saving::save;
 use exh_answer::Status;
 use exh_page::{Key, Value};
+use exh_stream::Output;
 use exhash::{Direct, Store, StoreError};
+use std::io::Write;
 
 /// A change of one key.
 #[derive(Clone, Copy)]
@@ -25,71 +33,75 @@ pub(crate) enum Change {
 }
 
 /// Makes a change, and prints the answer once it is saved.
-pub(crate) fn make_change(run: &Run<'_>, change: &Change) -> Status {
-    match answer_to(run, change) {
-        Ok(answer) => tell_answer(run, &answer),
+pub(crate) fn make_change<W: Write>(
+    run: &Run<'_>,
+    change: &Change,
+    output: &mut Output<'_, W>,
+) -> Status
+    requires open { IsFalse (writer_failed output.old) }
+    requires empty { pending output.old ≡ [] }
+    ensures same_writer { SameWriter output.old output.new }
+    ensures ends { ChangeEnds run.now.form.is_hex change.now (held W.contents output.old) (held W.contents output.new) (writer_failed output.new) result }
+{
+    let answered = answer_to(run, change);
+    end_change(run, answered, output)
+}
+
+// Ends a change by what the library answers.
+fn end_change<W: Write>(
+    run: &Run<'_>,
+    answered: Result<Answer, StoreError>,
+    output: &mut Output<'_, W>,
+) -> Status
+    requires open { IsFalse (writer_failed output.old) }
+    requires empty { pending output.old ≡ [] }
+    ensures same_writer { SameWriter output.old output.new }
+    ensures ends { Ends (change_ended run.now.form.is_hex answered) (held W.contents output.old) (held W.contents output.new) (writer_failed output.new) result }
+{
+    match answered {
+        Ok(answer) => tell_answer(run, &answer, output),
         Err(fault) => refuse_change(run, fault),
     }
 }
 
 // What the library answers to a change.
-fn answer_to(run: &Run<'_>, change: &Change) -> Result<Answer, StoreError> {
-    let direct = Direct::new(run.rt, run.path).within(run.seconds);
-    match answer_in_place(&direct, change) {
+fn answer_to(run: &Run<'_>, change: &Change) -> Result<Answer, StoreError>
+    ensures { IfOk result (IsAnswerTo change.now) }
+{
+    let mut direct = Direct::new(run.rt, run.path).within(run.seconds);
+    match answer_of(&mut direct, change) {
         Err(StoreError::OldVersion) => answer_whole(run, change),
         answer => answer,
     }
 }
 
-// That of a file of version 3.
-fn answer_in_place(file: &Direct<'_>, change: &Change) -> Result<Answer, StoreError> {
-    match change {
-        Change::Put { key, value } => Ok(Answer::of_put(file.put(
-            key.as_bytes(),
-            value.as_bytes(),
-        )?)),
-        Change::PutNew { key, value } => Ok(Answer::of_put_new(file.put_new(
-            key.as_bytes(),
-            value.as_bytes(),
-        )?)),
-        Change::Replace { key, value } => Ok(Answer::of_was(file.replace(
-            key.as_bytes(),
-            value.as_bytes(),
-        )?)),
-        Change::Remove { key } => Ok(Answer::of_was(file.remove(key.as_bytes())?)),
-        Change::Swap { key, old, new } => Ok(Answer::of_swap(file.swap(
-            key.as_bytes(),
-            old.as_bytes(),
-            new.as_bytes(),
-        )?)),
-    }
-}
-
 // That of a file of version 1 or 2, which is saved as a whole.
-fn answer_whole(run: &Run<'_>, change: &Change) -> Result<Answer, StoreError> {
+fn answer_whole(run: &Run<'_>, change: &Change) -> Result<Answer, StoreError>
+    ensures { IfOk result (IsAnswerTo change.now) }
+{
     let mut store = Store::open_within(run.rt, run.path, run.seconds)?;
-    let answer = answer_in_memory(&mut store, change)?;
+    let answer = answer_of(&mut store, change)?;
     save(run, store)?;
     Ok(answer)
 }
 
-// That of an open store.
-fn answer_in_memory(store: &mut Store<'_>, change: &Change) -> Result<Answer, StoreError> {
+// That of a page file.
+fn answer_of<F: ChangedFile>(file: &mut F, change: &Change) -> Result<Answer, StoreError>
+    ensures kind { IfOk result (IsAnswerTo change.now) }
+    ensures given { IfOk result (λ answer. F.gives file.old change.now answer file.new) }
+{
     match change {
-        Change::Put { key, value } => Ok(Answer::of_put(store.put(
-            key.as_bytes(),
-            value.as_bytes(),
-        )?)),
-        Change::PutNew { key, value } => Ok(Answer::of_put_new(store.put_new(
-            key.as_bytes(),
-            value.as_bytes(),
-        )?)),
-        Change::Replace { key, value } => Ok(Answer::of_was(store.replace(
-            key.as_bytes(),
-            value.as_bytes(),
-        )?)),
-        Change::Remove { key } => Ok(Answer::of_was(store.remove(key.as_bytes())?)),
-        Change::Swap { key, old, new } => Ok(Answer::of_swap(store.swap(
+        Change::Put { key, value } => {
+            Ok(Answer::of_put(file.put(key.as_bytes(), value.as_bytes())?))
+        }
+        Change::PutNew { key, value } => {
+            Ok(Answer::of_put_new(file.put_new(key.as_bytes(), value.as_bytes())?))
+        }
+        Change::Replace { key, value } => {
+            Ok(Answer::of_was(file.replace(key.as_bytes(), value.as_bytes())?))
+        }
+        Change::Remove { key } => Ok(Answer::of_was(file.remove(key.as_bytes())?)),
+        Change::Swap { key, old, new } => Ok(Answer::of_swap(file.swap(
             key.as_bytes(),
             old.as_bytes(),
             new.as_bytes(),

@@ -1,6 +1,7 @@
 //! The run of a create.
 ghost use Rattle.std.specs.Prelude.{◌≡◌};
 ghost use Rattle.exh_everyday.specs.Endings.{made_status};
+ghost use Rattle.exh_everyday.specs.Runs.{CreateEnds};
 
 use crate::refusal::{is_nothing_at, tell_refused};
 use crate::run::Run;
@@ -17,16 +18,25 @@ use std::time::{Duration, Instant};
 const PAUSES: u64 = 500;
 
 /// Makes a page file of version 3 without pairs at a path at which nothing is, or an empty file.
-pub(crate) fn create(run: &Run<'_>, settings: Settings) -> Status {
+pub(crate) fn create(run: &Run<'_>, settings: Settings) -> Status
+    ensures { CreateEnds result }
+{
     let was_free = is_nothing_at(run.rt, run.path);
     let made = make_soon(run, settings);
-    if let Err(fault) = &made {
+    end_create(run, was_free, &made)
+}
+
+// Ends a create by what the library answers; whether nothing was at the path before.
+fn end_create(run: &Run<'_>, was_free: bool, made: &Result<(), StoreError>) -> Status
+    ensures { result ≡ made_status made.now }
+{
+    if let Err(fault) = made {
         tell_refused(run.rt, run.path, fault);
         if was_free && is_empty_at(run.rt, run.path) {
             tell_left(run.rt, run.path);
         }
     }
-    made_status(&made)
+    made_status(made)
 }
 
 // Whether an empty file is at a path.

@@ -1,48 +1,85 @@
 //! The run of a del.
+ghost use Rattle.std.specs.Prelude.{◌≡◌, [], IsFalse};
+ghost use Rattle.exh_stream.specs.Output.{SameWriter, held, pending, writer_failed};
+ghost use Rattle.exh_everyday.specs.Endings.{Ends, del_several_ended};
+ghost use Rattle.exh_everyday.specs.Runs.{DelEnds, DelSeveralEnds};
 
 use crate::change::{Change, make_change};
 use crate::found::Found;
 use crate::input::input_keys;
-use crate::printing::tell_lines;
+use crate::printing::tell_found;
 use crate::refusal::refuse_change;
 use crate::run::Run;
 use crate::saving::save;
 use exh_answer::Status;
 use exh_page::Key;
 use exh_request::Keys;
+use exh_stream::Output;
 use exhash::{Store, StoreError};
+use std::io::Write;
 
 // What stands between a key and the value that it had.
 const BETWEEN: &str = " was ";
 
 /// Takes keys out, several in one commit, and prints the values that they had.
-pub(crate) fn delete(run: &Run<'_>, keys: &Keys) -> Status {
+pub(crate) fn delete<W: Write>(run: &Run<'_>, keys: &Keys, output: &mut Output<'_, W>) -> Status
+    requires open { IsFalse (writer_failed output.old) }
+    requires empty { pending output.old ≡ [] }
+    ensures same_writer { SameWriter output.old output.new }
+    ensures ends { DelEnds run.now.form.is_hex keys.now (held W.contents output.old) (held W.contents output.new) (writer_failed output.new) result }
+{
     match keys {
-        Keys::One(key) => make_change(run, &Change::Remove { key: *key }),
-        Keys::Several(keys) => delete_several(run, keys),
+        Keys::One(key) => make_change(run, &Change::Remove { key: *key }, output),
+        Keys::Several(keys) => delete_several(run, keys, output),
         Keys::Input => match input_keys(run) {
-            Ok(keys) => delete_several(run, &keys),
+            Ok(keys) => delete_several(run, &keys, output),
             Err(status) => status,
         },
     }
 }
 
 // Takes several keys out.
-fn delete_several(run: &Run<'_>, keys: &[Key]) -> Status {
-    match taken_out(run, keys) {
-        Ok(found) => tell_lines(run, BETWEEN, &found, true),
+fn delete_several<W: Write>(run: &Run<'_>, keys: &[Key], output: &mut Output<'_, W>) -> Status
+    requires open { IsFalse (writer_failed output.old) }
+    requires empty { pending output.old ≡ [] }
+    ensures same_writer { SameWriter output.old output.new }
+    ensures ends { DelSeveralEnds run.now.form.is_hex (held W.contents output.old) (held W.contents output.new) (writer_failed output.new) result }
+{
+    let taken = taken_out(run, keys);
+    end_delete(run, taken, output)
+}
+
+// Ends the del of several keys by what the library answers.
+fn end_delete<W: Write>(
+    run: &Run<'_>,
+    taken: Result<Found, StoreError>,
+    output: &mut Output<'_, W>,
+) -> Status
+    requires open { IsFalse (writer_failed output.old) }
+    requires empty { pending output.old ≡ [] }
+    ensures same_writer { SameWriter output.old output.new }
+    ensures ends { Ends (del_several_ended run.now.form.is_hex taken) (held W.contents output.old) (held W.contents output.new) (writer_failed output.new) result }
+{
+    match taken {
+        Ok(found) => tell_found(run, BETWEEN, &found, true, output),
         Err(fault) => refuse_change(run, fault),
     }
 }
 
 // What keys had that were taken out. All of them are one commit.
 fn taken_out(run: &Run<'_>, keys: &[Key]) -> Result<Found, StoreError> {
-    let mut found = Found::new(run.rt.alloc());
     let mut store = Store::open_within(run.rt, run.path, run.seconds)?;
+    let mut found = Found::new(run.rt.alloc());
+    take_out(&mut store, keys, &mut found)?;
+    save(run, store)?;
+    Ok(found)
+}
+
+// Takes keys out of a store, one after the other; what they had is found.
+fn take_out(store: &mut Store<'_>, keys: &[Key], found: &mut Found) -> Result<(), StoreError> {
     for key in keys {
         let was = store.remove(key.as_bytes())?;
         found.push(key, was)?;
     }
-    save(run, store)?;
-    Ok(found)
+    Ok(())
 }

@@ -1,6 +1,7 @@
 //! Keys that are asked for together: the values of those that are there, and the absent ones.
-ghost use Rattle.std.specs.Prelude.{◌≡◌, ◌++◌, IfOk, OnOk, flat_map};
+ghost use Rattle.std.specs.Prelude.{◌≡◌, [], ◌++◌, IfOk, OnOk, flat_map};
 ghost use Rattle.exh_everyday.specs.Answers.{found_status, pair_line};
+ghost use Rattle.exh_everyday.specs.Founds.{IsPushed};
 
 use crate::shown::push_listed;
 use exh_answer::Status;
@@ -17,15 +18,20 @@ pub(crate) struct Found {
 }
 
 impl Found {
-    pub(crate) fn new(alloc: Global) -> Found {
+    pub(crate) fn new(alloc: Global) -> Found
+        ensures pairs { result.pairs ≡ [] }
+        ensures absent { result.absent.items ≡ [] }
+    {
         Found {
             pairs: PackedPairs::new(alloc),
             absent: Vec::new(alloc),
         }
     }
 
-    /// Adds a key, and its value, if it has one.
-    pub(crate) fn push(&mut self, key: &Key, value: Option<Value>) -> Result<(), AllocError> {
+    /// Adds a key, and its value, if it has one. It takes memory.
+    pub(crate) fn push(&mut self, key: &Key, value: Option<Value>) -> Result<(), AllocError>
+        ensures { OnOk result (IsPushed self.old key.now value self.new) }
+    {
         match value {
             Some(value) => self.pairs.push(key, &value),
             None => Ok(self.absent.push(*key)?),

@@ -1,4 +1,5 @@
 //! Keys and values of standard input.
+ghost use Rattle.std.specs.Prelude.{◌≡◌, IfErr};
 
 use crate::run::Run;
 use crate::wrong_input::WrongInput;
@@ -16,28 +17,40 @@ use std::io::ErrorKind;
 
 /// The keys of standard input, one a line: a word of a text of pairs, or hexadecimal digits. Where a line is no key, or they
 /// aren't read, standard error says so, and the answer is the status with which the program ends.
-pub(crate) fn input_keys(run: &Run<'_>) -> Result<Vec<Key>, Status> {
+pub(crate) fn input_keys(run: &Run<'_>) -> Result<Vec<Key>, Status>
+    ensures { IfErr result (λ status. status ≡ Status.Refused) }
+{
     let alloc = run.rt.alloc();
     let keys = match input_text(run) {
         Ok(text) => keys_in(alloc, &text, run.form.is_hex),
         Err(wrong) => Err(wrong),
     };
-    keys.map_err(|wrong| refuse_input(run, wrong))
+    match keys {
+        Ok(keys) => Ok(keys),
+        Err(wrong) => Err(refuse_input(run, wrong)),
+    }
 }
 
 /// The value of standard input, of which one newline at its end is left off, unless it is to be kept. Where it is none, or
 /// isn't read, standard error says so, and the answer is the status with which the program ends.
-pub(crate) fn input_value(run: &Run<'_>) -> Result<Value, Status> {
+pub(crate) fn input_value(run: &Run<'_>) -> Result<Value, Status>
+    ensures { IfErr result (λ status. status ≡ Status.Refused) }
+{
     let value = match input_text(run) {
         Ok(text) => value_in(&text, run.form),
         Err(WrongInput::TooLong) => Err(WrongInput::EndlessValue),
         Err(wrong) => Err(wrong),
     };
-    value.map_err(|wrong| refuse_input(run, wrong))
+    match value {
+        Ok(value) => Ok(value),
+        Err(wrong) => Err(refuse_input(run, wrong)),
+    }
 }
 
 // Says what is wrong with standard input, and gives the status with which the program ends.
-fn refuse_input(run: &Run<'_>, wrong: WrongInput) -> Status {
+fn refuse_input(run: &Run<'_>, wrong: WrongInput) -> Status
+    ensures { result ≡ Status.Refused }
+{
     let _ = eprintln!(run.rt; "exhash: {INPUT}: {wrong}");
     Status::Refused
 }

@@ -43,21 +43,24 @@ struct KeysReading<'k> {
     reason: &'k Reason,
 }
 
-impl KeysReading<'_> {
-    // The values of the keys in the blocks of a page file.
-    fn find_in<B: Blocks>(&self, blocks: &mut B) -> Result<Found, DirectFault> {
-        let mut found = Found::new(self.alloc);
-        for key in self.keys {
-            let value = value_in(self.alloc, blocks, key)?;
-            found.push(key, value)?;
-        }
-        Ok(found)
-    }
-}
-
-// The value of a key in the blocks of a page file, whatever they are of: of a legal file its map's.
+// Finds the values of keys in the blocks of a page file, whatever they are of: of a legal file its map's. They stand behind what
+// is found by then.
 //
 // Errors: as of `find_any`.
+fn find_all<B: Blocks>(
+    alloc: Global,
+    blocks: &mut B,
+    keys: &[Key],
+    found: &mut Found,
+) -> Result<(), DirectFault> {
+    for key in keys {
+        let value = value_in(alloc, blocks, key)?;
+        found.push(key, value)?;
+    }
+    Ok(())
+}
+
+// The value of a key in the blocks of a page file.
 fn value_in<B: Blocks>(
     alloc: Global,
     blocks: &mut B,
@@ -74,7 +77,11 @@ impl Reading for KeysReading<'_> {
     fn read(&mut self, file: &File) -> Result<Found, DirectFault> {
         self.reason.set(None);
         match with_reason(FileBlocks::new(file, self.reason), self.reason) {
-            Ok(mut blocks) => self.find_in(&mut blocks),
+            Ok(mut blocks) => {
+                let mut found = Found::new(self.alloc);
+                find_all(self.alloc, &mut blocks, self.keys, &mut found)?;
+                Ok(found)
+            }
             Err(_) => Err(DirectFault::Read),
         }
     }

@@ -7,6 +7,7 @@ pub use performing::perform;
 mod answer;
 mod backup;
 mod change;
+mod changed_file;
 mod creation;
 mod deletion;
 mod found;

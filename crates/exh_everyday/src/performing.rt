@@ -1,4 +1,7 @@
 //! The everyday commands, each with its run.
+ghost use Rattle.std.specs.Prelude.{◌≡◌, [], IsFalse};
+ghost use Rattle.exh_stream.specs.Output.{SameWriter, held, pending, writer_failed};
+ghost use Rattle.exh_everyday.specs.Runs.{PutEnds, RunEnds, change_of_put};
 
 use crate::backup::back_up;
 use crate::change::{Change, make_change};
@@ -8,49 +11,79 @@ use crate::get::get;
 use crate::input::input_value;
 use crate::run::Run;
 use exh_answer::Status;
+use exh_notes::ReasonWriter;
 use exh_page::{Key, Value};
 use exh_request::{Action, NewValue, PutWhen, Request};
+use exh_stream::Output;
+use std::cell::Cell;
+use std::io;
+use std::io::Write;
 
 /// Does what a request asks for: the answer goes to standard output, and what is refused, or absent, is said on standard
 /// error. The status is that with which the program ends.
 pub fn perform(rt: &HostRuntime, request: &Request<'_>) -> Status {
+    let reason = Cell::new(None);
     let run = Run {
         rt,
         path: request.path,
         seconds: request.wait,
         form: request.form,
+        reason: &reason,
     };
-    match &request.action {
-        Action::Create(settings) => create(&run, *settings),
-        Action::Get(keys) => get(&run, keys),
-        Action::Put { key, value, when } => put(&run, key, value, *when),
-        Action::Del(keys) => delete(&run, keys),
-        Action::Swap { key, old, new } => make_change(
-            &run,
-            &Change::Swap {
+    let mut writer = ReasonWriter::new(io::writer(rt), &reason);
+    run_action(&run, &request.action, &mut Output::new(&mut writer))
+}
+
+// Runs an action, whose answer goes to an output.
+fn run_action<W: Write>(run: &Run<'_>, action: &Action<'_>, output: &mut Output<'_, W>) -> Status
+    requires open { IsFalse (writer_failed output.old) }
+    requires empty { pending output.old ≡ [] }
+    ensures same_writer { SameWriter output.old output.new }
+    ensures ends { RunEnds run.now.form action.now (held W.contents output.old) (held W.contents output.new) (writer_failed output.new) result }
+{
+    match action {
+        Action::Create(settings) => create(run, *settings),
+        Action::Get(keys) => get(run, keys, output),
+        Action::Put { key, value, when } => put(run, key, value, *when, output),
+        Action::Del(keys) => delete(run, keys, output),
+        Action::Swap { key, old, new } => {
+            let swap = Change::Swap {
                 key: *key,
                 old: *old,
                 new: *new,
-            },
-        ),
-        Action::Backup { new } => back_up(&run, new),
+            };
+            make_change(run, &swap, output)
+        }
+        Action::Backup { new } => back_up(run, new),
     }
 }
 
 // Gives a key a value, that of a word or of standard input.
-fn put(run: &Run<'_>, key: &Key, value: &NewValue, when: PutWhen) -> Status {
-    let value = match value {
-        NewValue::Word(value) => *value,
+fn put<W: Write>(
+    run: &Run<'_>,
+    key: &Key,
+    value: &NewValue,
+    when: PutWhen,
+    output: &mut Output<'_, W>,
+) -> Status
+    requires open { IsFalse (writer_failed output.old) }
+    requires empty { pending output.old ≡ [] }
+    ensures same_writer { SameWriter output.old output.new }
+    ensures ends { PutEnds run.now.form.is_hex key.now value.now when (held W.contents output.old) (held W.contents output.new) (writer_failed output.new) result }
+{
+    match value {
+        NewValue::Word(value) => make_change(run, &put_of(*key, *value, when), output),
         NewValue::Input => match input_value(run) {
-            Ok(value) => value,
-            Err(status) => return status,
+            Ok(value) => make_change(run, &put_of(*key, value, when), output),
+            Err(status) => status,
         },
-    };
-    make_change(run, &put_of(*key, value, when))
+    }
 }
 
 // The change that a put asks for.
-fn put_of(key: Key, value: Value, when: PutWhen) -> Change {
+fn put_of(key: Key, value: Value, when: PutWhen) -> Change
+    ensures { result ≡ change_of_put key value when }
+{
     match when {
         PutWhen::Always => Change::Put { key, value },
         PutWhen::New => Change::PutNew { key, value },

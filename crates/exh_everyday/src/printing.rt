@@ -1,56 +1,77 @@
-//! What the everyday commands print on standard output, and what is said where it isn't printed.
+//! What the everyday commands print, and what is said where it isn't printed.
 ghost use Rattle.std.specs.Prelude.{◌≡◌, [], IsFalse};
 ghost use Rattle.exh_stream.specs.Output.{SameWriter, held, pending, writer_failed};
-ghost use Rattle.exh_everyday.specs.Answers.{EndsText};
+ghost use Rattle.exh_everyday.specs.Answers.{EndsText, answer_line, answer_status};
+ghost use Rattle.exh_everyday.specs.Endings.{Ends, Says, found_ended};
 
 use crate::answer::Answer;
 use crate::found::Found;
 use crate::refusal::{tell_absent, tell_unprinted};
 use crate::run::Run;
 use exh_answer::{Status, tell_line};
-use exh_notes::ReasonWriter;
 use exh_stream::Output;
 use std::alloc::AllocError;
-use std::cell::Cell;
-use std::io;
 use std::io::Write;
 
 /// Prints the answer to a change, which is saved where the change is made.
-pub(crate) fn tell_answer(run: &Run<'_>, answer: &Answer) -> Status {
+pub(crate) fn tell_answer<W: Write>(
+    run: &Run<'_>,
+    answer: &Answer,
+    output: &mut Output<'_, W>,
+) -> Status
+    requires open { IsFalse (writer_failed output.old) }
+    requires empty { pending output.old ≡ [] }
+    ensures same_writer { SameWriter output.old output.new }
+    ensures ends { Ends (Says (answer_line run.now.form.is_hex answer.now) (answer_status answer.now)) (held W.contents output.old) (held W.contents output.new) (writer_failed output.new) result }
+{
     let line = answer.line(run.rt.alloc(), run.form.is_hex);
     let status = answer.status();
-    tell_text(run, line, status, matches!(status, Status::Done))
+    tell_text(run, line, status, matches!(status, Status::Done), output)
 }
 
 /// Prints the keys that were found, each with its value behind these words; the others are said on standard error. Whether
 /// a change is saved stands for `tell_text`.
-pub(crate) fn tell_lines(run: &Run<'_>, words: &str, found: &Found, is_saved: bool) -> Status {
+pub(crate) fn tell_found<W: Write>(
+    run: &Run<'_>,
+    words: &str,
+    found: &Found,
+    is_saved: bool,
+    output: &mut Output<'_, W>,
+) -> Status
+    requires open { IsFalse (writer_failed output.old) }
+    requires empty { pending output.old ≡ [] }
+    ensures same_writer { SameWriter output.old output.new }
+    ensures ends { Ends (found_ended words.now run.now.form.is_hex found.now) (held W.contents output.old) (held W.contents output.new) (writer_failed output.new) result }
+{
     for key in &found.absent {
         tell_absent(run.rt, run.path, key);
     }
     let text = found.lines(run.rt.alloc(), words, run.form.is_hex);
-    tell_text(run, text, found.status(), is_saved)
+    tell_text(run, text, found.status(), is_saved, output)
 }
 
-/// Prints a text on standard output, and answers the status with which the program ends. Where it isn't printed standard
-/// error says so, and whether a change is saved.
-pub(crate) fn tell_text(
+/// Prints a text on an output that holds nothing back and whose writer hasn't failed, and answers the status with which the
+/// program ends: this one where the text went out, else `Refused`. Then standard error says so, and whether a change is saved.
+pub(crate) fn tell_text<W: Write>(
     run: &Run<'_>,
     text: Result<Vec<u8>, AllocError>,
     status: Status,
     is_saved: bool,
-) -> Status {
-    let reason = Cell::new(None);
-    let mut writer = ReasonWriter::new(io::writer(run.rt), &reason);
-    let printed = print_text(text, status, &mut Output::new(&mut writer));
+    output: &mut Output<'_, W>,
+) -> Status
+    requires open { IsFalse (writer_failed output.old) }
+    requires empty { pending output.old ≡ [] }
+    ensures same_writer { SameWriter output.old output.new }
+    ensures told { EndsText (λ text. text.items) (held W.contents output.old) (held W.contents output.new) (writer_failed output.new) text status result }
+{
+    let printed = print_text(text, status, output);
     if matches!(printed, Status::Refused) {
-        tell_unprinted(run, &reason, is_saved);
+        tell_unprinted(run, is_saved);
     }
     printed
 }
 
-// Prints a text on an output that holds nothing back and whose writer hasn't failed, and answers the status with which the
-// program ends: this one where the text went out, else `Refused`.
+// The same, where nothing is said.
 fn print_text<W: Write>(
     text: Result<Vec<u8>, AllocError>,
     status: Status,

@@ -1,13 +1,12 @@
 //! What standard error says where a command is refused, or a key is absent, and the statuses of refusals.
 ghost use Rattle.std.specs.Prelude.{◌≡◌};
-ghost use Rattle.exh_everyday.specs.Endings.{change_status, made_status, reading_status};
+ghost use Rattle.exh_everyday.specs.Endings.{change_status, reading_status};
 
 use crate::run::Run;
 use exh_answer::Status;
 use exh_backup::unread_at;
 use exh_notes::Escaped;
 use exh_page::Key;
-use exh_system::Reason;
 use exh_text::push_value;
 use exhash::StoreError;
 use std::alloc::AllocError;
@@ -21,17 +20,23 @@ pub(crate) fn tell_refused(rt: &impl Eprint, path: &str, fault: &StoreError) {
 }
 
 /// Says why the file isn't read, and gives the status with which the program ends.
-pub(crate) fn refuse_reading(run: &Run<'_>, fault: StoreError) -> Status {
+pub(crate) fn refuse_reading(run: &Run<'_>, fault: StoreError) -> Status
+    ensures { result ≡ reading_status fault }
+{
+    let status = reading_status(&fault);
     let fault = unread_at(run.rt, run.path, fault);
     tell_refused(run.rt, run.path, &fault);
-    reading_status(&fault)
+    status
 }
 
 /// Says why the file isn't changed, and gives the status with which the program ends.
-pub(crate) fn refuse_change(run: &Run<'_>, fault: StoreError) -> Status {
+pub(crate) fn refuse_change(run: &Run<'_>, fault: StoreError) -> Status
+    ensures { result ≡ change_status fault }
+{
+    let status = change_status(&fault);
     let fault = unread_at(run.rt, run.path, vanished(run, fault));
     tell_refused(run.rt, run.path, &fault);
-    change_status(&fault)
+    status
 }
 
 // The cause for which a file isn't changed that was there: that it is no longer, where the system finds none.
@@ -95,14 +100,14 @@ fn key_word(rt: &impl AllocGlobal, key: &Key) -> Result<String, AllocError> {
 }
 
 /// Says that an answer isn't printed, and why, and whether a change is saved all the same.
-pub(crate) fn tell_unprinted(run: &Run<'_>, reason: &Reason, is_saved: bool) {
+pub(crate) fn tell_unprinted(run: &Run<'_>, is_saved: bool) {
     let path = Escaped(run.path);
     let saved = if is_saved {
         "the change is saved, but "
     } else {
         ""
     };
-    match reason.get() {
+    match run.reason.get() {
         Some(error) => {
             let _ = eprintln!(run.rt;
                 "exhash: {path}: {saved}its answer isn't printed: {error} (refused 42)"

@@ -1,4 +1,5 @@
 use exh_request::Form;
+use exh_system::Reason;
 
 /// The run of an everyday command over the page file of a path.
 #[derive(Clone, Copy)]
@@ -9,4 +10,6 @@ pub(crate) struct Run<'r> {
     pub(crate) seconds: u64,
     /// How keys and values are read and printed.
     pub(crate) form: Form,
+    /// Why standard output failed, if it did.
+    pub(crate) reason: &'r Reason,
 }
