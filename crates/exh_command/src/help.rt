@@ -5,9 +5,9 @@ ghost use Rattle.exh_command.specs.CommandFault.{IsWrong, TellsVersion};
 
 use crate::fault::CliFault;
 use crate::names::{
-    BACKUP, CAP, CHECK, CONVERT, CREATE, DEL, DUMP, FROM, GET, HELP, HEX, KEYER, KEYER_NAME, LOAD,
-    MANUAL, NEW_FLAG, NUMBER, PAIRS, PROGRAM, PUT, RAW, REPLACE, SERVE, STORM, SWAP, VERSION, WAIT,
-    WARDS,
+    ATOMIC, BACKUP, BARE, CAP, CHECK, COMPACT, CONVERT, CREATE, CREATE_FLAG, DEL, DUMP, EXPORT, FORMAT,
+    FROM, GET, HELP, HEX, IMPORT, JSON, KEYER, KEYER_NAME, LOAD, MANUAL, NEW_FLAG, NUMBER, PAIRS,
+    PROGRAM, PUT, RAW, REPLACE, SERVE, STATS, STORM, SWAP, VERSION, WAIT, WARDS,
 };
 use crate::parser::{
     bare_command, bare_program, check, convert, dump, flag, load, manual, option, pairs, serve,
@@ -63,6 +63,10 @@ fn command_named<'a>(alloc: Global, name: &str) -> Result<Command<'a>, AllocErro
         DEL => del(alloc),
         SWAP => swap(alloc),
         BACKUP => backup(alloc),
+        IMPORT => import(alloc),
+        EXPORT => export(alloc),
+        COMPACT => compact(alloc),
+        STATS => stats(alloc),
         CHECK => check(alloc),
         DUMP => dump(alloc),
         PAIRS => pairs(alloc),
@@ -139,7 +143,11 @@ fn everyday_program<'a>(alloc: Global) -> Result<Command<'a>, AllocError> {
     let program = with(program, put(alloc));
     let program = with(program, del(alloc));
     let program = with(program, swap(alloc));
-    with(program, backup(alloc))
+    let program = with(program, backup(alloc));
+    let program = with(program, import(alloc));
+    let program = with(program, export(alloc));
+    let program = with(program, compact(alloc));
+    with(program, stats(alloc))
 }
 
 // A program with one command more, where both were made.
@@ -152,27 +160,32 @@ fn with<'a>(
 
 // What help tells of `create`.
 fn create<'a>(alloc: Global) -> Result<Command<'a>, AllocError> {
-    bare_command(
+    let command = bare_command(
         alloc,
         CREATE,
         exh_help::create::ABOUT,
         exh_help::create::USAGE,
         exh_help::create::TEXT,
-    )
-    .arg(option(
-        alloc,
-        CAP,
-        NUMBER,
-        "How many records a page may have, 1 to 16 [default: 16]",
-    ))?
-    .arg(option(alloc, WARDS, NUMBER, "0 to 4, for 2^N wards [default: 0]"))?
-    .arg(option(
-        alloc,
-        KEYER,
-        KEYER_NAME,
-        "The keyer, sha or plain [default: sha]",
-    ))?
-    .arg(wait(alloc))
+    );
+    with_new_settings(alloc, command?)?.arg(wait(alloc))
+}
+
+// A command with the options that name the settings of a new file.
+fn with_new_settings<'a>(alloc: Global, command: Command<'a>) -> Result<Command<'a>, AllocError> {
+    command
+        .arg(option(
+            alloc,
+            CAP,
+            NUMBER,
+            "How many records a page may have, 1 to 16 [default: 16]",
+        ))?
+        .arg(option(alloc, WARDS, NUMBER, "0 to 4, for 2^N wards [default: 0]"))?
+        .arg(option(
+            alloc,
+            KEYER,
+            KEYER_NAME,
+            "The keyer, sha or plain [default: sha]",
+        ))
 }
 
 // What help tells of `get`.
@@ -245,6 +258,75 @@ fn backup<'a>(alloc: Global) -> Result<Command<'a>, AllocError> {
     .arg(wait(alloc))
 }
 
+// What help tells of `import`.
+fn import<'a>(alloc: Global) -> Result<Command<'a>, AllocError> {
+    let command = bare_command(
+        alloc,
+        IMPORT,
+        exh_help::import::ABOUT,
+        exh_help::import::USAGE,
+        exh_help::import::TEXT,
+    )
+    .arg(format(alloc))?
+    .arg(hex(alloc))?
+    .arg(flag(alloc, ATOMIC, "All pairs at once, or none"))?
+    .arg(flag(alloc, CREATE_FLAG, "Makes the file where nothing is"))?;
+    with_new_settings(alloc, command)?.arg(wait(alloc))
+}
+
+// What help tells of `export`.
+fn export<'a>(alloc: Global) -> Result<Command<'a>, AllocError> {
+    bare_command(
+        alloc,
+        EXPORT,
+        exh_help::export::ABOUT,
+        exh_help::export::USAGE,
+        exh_help::export::TEXT,
+    )
+    .arg(format(alloc))?
+    .arg(hex(alloc))?
+    .arg(flag(alloc, BARE, "Leaves the first line and the last out"))?
+    .arg(wait(alloc))
+}
+
+// What help tells of `compact`.
+fn compact<'a>(alloc: Global) -> Result<Command<'a>, AllocError> {
+    bare_command(
+        alloc,
+        COMPACT,
+        exh_help::compact::ABOUT,
+        exh_help::compact::USAGE,
+        exh_help::compact::TEXT,
+    )
+    .arg(option(
+        alloc,
+        CAP,
+        NUMBER,
+        "How many records a page may have, 1 to 16 [default: the file's]",
+    ))?
+    .arg(option(alloc, WARDS, NUMBER, "0 to 4, for 2^N wards [default: the file's]"))?
+    .arg(option(
+        alloc,
+        KEYER,
+        KEYER_NAME,
+        "The keyer, sha or plain [default: the file's]",
+    ))?
+    .arg(wait(alloc))
+}
+
+// What help tells of `stats`.
+fn stats<'a>(alloc: Global) -> Result<Command<'a>, AllocError> {
+    bare_command(
+        alloc,
+        STATS,
+        exh_help::stats::ABOUT,
+        exh_help::stats::USAGE,
+        exh_help::stats::TEXT,
+    )
+    .arg(flag(alloc, JSON, "One JSON object"))?
+    .arg(wait(alloc))
+}
+
 fn wait<'a>(alloc: Global) -> Arg<'a> {
     option(
         alloc,
@@ -259,6 +341,15 @@ fn hex<'a>(alloc: Global) -> Arg<'a> {
         alloc,
         HEX,
         "Keys and values are hexadecimal, two digits a byte",
+    )
+}
+
+fn format<'a>(alloc: Global) -> Arg<'a> {
+    option(
+        alloc,
+        FORMAT,
+        "words|tsv",
+        "How pairs are written [default: words]",
     )
 }
 

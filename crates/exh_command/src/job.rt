@@ -10,9 +10,7 @@ use crate::fault::CliFault;
 use crate::help::{told_by_program, usage_error};
 use crate::load_way::LoadWay;
 use crate::names::{
-    BACKUP, CALLERS, CALLS, CAP, CHECK, COMMAND, CONVERT, COPIES, CREATE, DEL, DUMP, GET, INTO,
-    KEYER, LOAD, LONG, MANUAL, NEW, OPEN, PAIRS, PATH, PUT, SAVE, SERVE, STORM, SWAP, VERSION,
-    WARDS,
+    BACKUP, CALLERS, CALLS, CAP, CHECK, COMMAND, COMPACT, CONVERT, COPIES, CREATE, DEL, DUMP, EXPORT, GET, IMPORT, INTO, KEYER, LOAD, LONG, MANUAL, NEW, OPEN, PAIRS, PATH, PUT, SAVE, SERVE, STATS, STORM, SWAP, VERSION, WARDS,
 };
 use crate::page_file_version::PageFileVersion;
 use crate::parser::parser;
@@ -321,6 +319,10 @@ fn is_command(word: &str) -> bool
         | CONVERT
         | CREATE
         | BACKUP
+        | IMPORT
+        | EXPORT
+        | COMPACT
+        | STATS
         | VERSION
         | MANUAL => true,
         _ => false,

@@ -18,6 +18,18 @@ pub(crate) const SWAP: &str = "swap";
 /// The command that copies a page file.
 pub(crate) const BACKUP: &str = "backup";
 
+/// The command that puts the pairs of a text into a page file.
+pub(crate) const IMPORT: &str = "import";
+
+/// The command that prints all pairs.
+pub(crate) const EXPORT: &str = "export";
+
+/// The command that makes a page file anew.
+pub(crate) const COMPACT: &str = "compact";
+
+/// The command that counts what a page file has.
+pub(crate) const STATS: &str = "stats";
+
 /// The command that says whether a file is a legal page file.
 pub(crate) const CHECK: &str = "check";
 
@@ -72,16 +84,16 @@ pub(crate) const CALLERS: &str = "callers";
 /// The option of `storm` that tells how many calls each caller makes.
 pub(crate) const CALLS: &str = "calls";
 
-/// The option of `storm`, `pairs` and `create` that tells how many records a page may have.
+/// The option of `storm`, `pairs`, `create`, `import` and `compact` that tells how many records a page may have.
 pub(crate) const CAP: &str = "cap";
 
-/// The option of `storm`, `pairs` and `create` that tells by how many bits the file is cut into wards.
+/// The option of `storm`, `pairs`, `create`, `import` and `compact` that tells by how many bits the file is cut into wards.
 pub(crate) const WARDS: &str = "wards";
 
 /// The option of `storm` that tells how many copies of the directory there are.
 pub(crate) const COPIES: &str = "copies";
 
-/// The option of `pairs` and of `create` that names a keyer.
+/// The option of `pairs`, `create`, `import` and `compact` that names a keyer.
 pub(crate) const KEYER: &str = "keyer";
 
 /// The option of the everyday commands that tells how long another process is waited for.
@@ -101,6 +113,21 @@ pub(crate) const REPLACE: &str = "replace";
 
 /// The option of `get` and of `del` by which keys stand on standard input.
 pub(crate) const FROM: &str = "from";
+
+/// The option of `import` and of `export` that names how pairs are written.
+pub(crate) const FORMAT: &str = "format";
+
+/// The flag of `import` by which a file is made where none is.
+pub(crate) const CREATE_FLAG: &str = "create";
+
+/// The flag of `import` by which all pairs are put in or none.
+pub(crate) const ATOMIC: &str = "atomic";
+
+/// The flag of `export` that leaves its first line and its last out.
+pub(crate) const BARE: &str = "bare";
+
+/// The flag of `stats` that prints JSON.
+pub(crate) const JSON: &str = "json";
 
 /// What help calls a number.
 pub(crate) const NUMBER: &str = "N";

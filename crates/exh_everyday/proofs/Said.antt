@@ -3,8 +3,7 @@ use Rattle.std.proofs.Common.{◌≡◌, ℕ, Bool, List, Option, Result, Ok, Er
 use Rattle.std.specs.Prelude.{IfOk}
 use Rattle.exh_answer.specs.LastLine.{TellsLine}
 use Rattle.exh_answer.specs.declared.status.Status.{Status}
-use Rattle.exh_everyday.specs.Answers.{EndsText}
-use Rattle.exh_everyday.specs.Endings.{Ends, Says}
+use Rattle.exh_run.specs.Ends.{Ends, EndsText, Says}
 
 pub said : {V E : Type 0} (bytes : V → List ℕ) (old new : Option (List ℕ)) (failed : Bool) (text : Result V E) (status result : Status) (wanted : List ℕ)
     → IfOk text (λ text. bytes text ≡ wanted) → EndsText bytes old new failed text status result → Ends (Says wanted status) old new failed result

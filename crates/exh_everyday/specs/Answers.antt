@@ -1,5 +1,5 @@
 -- What the everyday commands print of what the library answers, and the statuses behind it.
-use Rattle.std.specs.Prelude.{◌≡◌, ℕ, Bool, true, false, List, [], ◌∷◌, ◌++◌, codes, Option, None, Some, Result, Ok, Err}
+use Rattle.std.specs.Prelude.{ℕ, Bool, true, false, List, [], ◌∷◌, ◌++◌, codes, Option, None, Some}
 use Rattle.hex.specs.Hex.{encode_lower}
 use Rattle.exh_text.specs.Contents.{on_line}
 use Rattle.exh_text.specs.Printing.{printed}
@@ -9,9 +9,8 @@ use Rattle.exh_map.specs.declared.put_new.PutNew.{PutNew}
 use Rattle.exh_map.specs.declared.put_new.PutNew.TheVariants as put_new
 use Rattle.exh_map.specs.declared.swap.Swap.{Swap}
 use Rattle.exh_map.specs.declared.swap.Swap.TheVariants as swap
-use Rattle.exh_answer.specs.LastLine.{TellsLine}
 use Rattle.exh_answer.specs.declared.status.Status.{Status}
-use Rattle.exh_answer.specs.declared.status.Status.TheVariants.{Done, Missing, Refused}
+use Rattle.exh_answer.specs.declared.status.Status.TheVariants.{Done, Missing}
 use Rattle.exh_everyday.specs.declared.answer.Answer.{Answer}
 use Rattle.exh_everyday.specs.declared.answer.Answer.TheVariants.{New, Was, Full, Exists, Absent, Swapped, Differs}
 
@@ -86,12 +85,3 @@ pair_line words hex pair = on_line (listed hex pair.0 ++ (words ++ listed hex pa
 abbrev pub found_status : {K : Type 0} → List K → Status
 found_status [] = Done
 found_status (key ∷ keys) = Missing
-
--- ---- what is printed
-
--- Of a writer that held `old` bytes before and `new` ones after, where these are known, and of whether it failed: the text
--- goes out, and the status is this one, or another where it didn't go out; where there was no memory for the text nothing
--- is printed.
-abbrev pub EndsText : {V E : Type 0} → (V → List ℕ) → Option (List ℕ) → Option (List ℕ) → Bool → Result V E → Status → Status → Type 0
-EndsText bytes old new failed (Ok text) status result = TellsLine old new failed (bytes text) status result
-EndsText bytes old new failed (Err none) status result = (new ≡ old) × (result ≡ Refused)

@@ -18,7 +18,8 @@ use Rattle.exh_everyday.specs.declared.change.Change.{Change}
 use Rattle.exh_everyday.specs.declared.change.Change.TheVariants.{Put, PutNew, Replace, Remove, Swap}
 use Rattle.exh_everyday.specs.declared.found.Found.{Found}
 use Rattle.exh_everyday.specs.Changes.{IsAnswerTo}
-use Rattle.exh_everyday.specs.Endings.{Ends, Silent, change_ended, copied_status, del_several_ended, get_ended, get_several_ended, made_status}
+use Rattle.exh_run.specs.Ends.{Ends, Silent, made_status}
+use Rattle.exh_everyday.specs.Endings.{change_ended, copied_status, del_several_ended, get_ended, get_several_ended}
 
 -- the change that a put asks for
 abbrev pub change_of_put : List ℕ → List ℕ → PutWhen → Change

@@ -3,10 +3,9 @@ ghost use Rattle.std.specs.Prelude.{◌≡◌};
 ghost use Rattle.exh_everyday.specs.Endings.{backup_status, copied_status};
 ghost use Rattle.exh_everyday.specs.Runs.{BackupEnds};
 
-use crate::refusal::tell_refused;
-use crate::run::Run;
 use exh_answer::Status;
 use exh_backup::{backup_within, unread_at};
+use exh_run::{Run, tell_refused};
 use exhash::{BackupFault, StoreError};
 
 /// Copies one state of the page file to a new path at which nothing is.

@@ -1,13 +1,12 @@
 //! The run of a create.
 ghost use Rattle.std.specs.Prelude.{◌≡◌};
-ghost use Rattle.exh_everyday.specs.Endings.{made_status};
+ghost use Rattle.exh_run.specs.Ends.{made_status};
 ghost use Rattle.exh_everyday.specs.Runs.{CreateEnds};
 
-use crate::refusal::{is_nothing_at, tell_refused};
-use crate::run::Run;
 use exh_answer::Status;
 use exh_disk::folder_of;
 use exh_notes::Escaped;
+use exh_run::{Run, is_nothing_at, made_status, tell_refused};
 use exh_system::pause_after;
 use exhash::{Settings, StoreError, make};
 use std::fs;
@@ -73,16 +72,4 @@ fn make_soon(run: &Run<'_>, settings: Settings) -> Result<(), StoreError> {
         sleep(run.rt, pause_after(passed));
     }
     make(run.rt, run.path, settings)
-}
-
-// The status after a file was made, or wasn't.
-fn made_status(made: &Result<(), StoreError>) -> Status
-    ensures { result ≡ made_status made.now }
-{
-    match made {
-        Ok(()) | Err(StoreError::Unsynchronized(_)) => Status::Done,
-        Err(StoreError::Exists) => Status::Missing,
-        Err(StoreError::Busy) => Status::Busy,
-        Err(_) => Status::Refused,
-    }
 }

@@ -1,19 +1,17 @@
 //! The run of a del.
 ghost use Rattle.std.specs.Prelude.{◌≡◌, [], IsFalse};
 ghost use Rattle.exh_stream.specs.Output.{SameWriter, held, pending, writer_failed};
-ghost use Rattle.exh_everyday.specs.Endings.{Ends, del_several_ended};
+ghost use Rattle.exh_run.specs.Ends.{Ends};
+ghost use Rattle.exh_everyday.specs.Endings.{del_several_ended};
 ghost use Rattle.exh_everyday.specs.Runs.{DelEnds, DelSeveralEnds};
 
 use crate::change::{Change, make_change};
 use crate::found::Found;
-use crate::input::input_keys;
 use crate::printing::tell_found;
-use crate::refusal::refuse_change;
-use crate::run::Run;
-use crate::saving::save;
 use exh_answer::Status;
 use exh_page::Key;
 use exh_request::Keys;
+use exh_run::{Run, input_keys, refuse_change, save};
 use exh_stream::Output;
 use exhash::{Store, StoreError};
 use std::io::Write;

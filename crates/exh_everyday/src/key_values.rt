@@ -2,11 +2,11 @@
 ghost use Rattle.exh_walked.specs.AnyAnswer.{IsOfLegal};
 
 use crate::found::Found;
-use crate::run::Run;
 use exh_backup::unread_at;
 use exh_direct::{Blocks, DirectFault};
 use exh_in_place::{Reading, read_one_state};
 use exh_page::{Key, Value};
+use exh_run::Run;
 use exh_system::{FileBlocks, Reason, with_reason};
 use exh_walked::find_any;
 use exhash::StoreError;

@@ -1,16 +1,15 @@
-//! What the everyday commands print, and what is said where it isn't printed.
+//! What the everyday commands print of answers.
 ghost use Rattle.std.specs.Prelude.{◌≡◌, [], IsFalse};
 ghost use Rattle.exh_stream.specs.Output.{SameWriter, held, pending, writer_failed};
-ghost use Rattle.exh_everyday.specs.Answers.{EndsText, answer_line, answer_status};
-ghost use Rattle.exh_everyday.specs.Endings.{Ends, Says, found_ended};
+ghost use Rattle.exh_run.specs.Ends.{Ends, Says};
+ghost use Rattle.exh_everyday.specs.Answers.{answer_line, answer_status};
+ghost use Rattle.exh_everyday.specs.Endings.{found_ended};
 
 use crate::answer::Answer;
 use crate::found::Found;
-use crate::refusal::{tell_absent, tell_unprinted};
-use crate::run::Run;
-use exh_answer::{Status, tell_line};
+use exh_answer::Status;
+use exh_run::{Run, tell_absent, tell_text};
 use exh_stream::Output;
-use std::alloc::AllocError;
 use std::io::Write;
 
 /// Prints the answer to a change, which is saved where the change is made.
@@ -48,42 +47,4 @@ pub(crate) fn tell_found<W: Write>(
     }
     let text = found.lines(run.rt.alloc(), words, run.form.is_hex);
     tell_text(run, text, found.status(), is_saved, output)
-}
-
-/// Prints a text on an output that holds nothing back and whose writer hasn't failed, and answers the status with which the
-/// program ends: this one where the text went out, else `Refused`. Then standard error says so, and whether a change is saved.
-pub(crate) fn tell_text<W: Write>(
-    run: &Run<'_>,
-    text: Result<Vec<u8>, AllocError>,
-    status: Status,
-    is_saved: bool,
-    output: &mut Output<'_, W>,
-) -> Status
-    requires open { IsFalse (writer_failed output.old) }
-    requires empty { pending output.old ≡ [] }
-    ensures same_writer { SameWriter output.old output.new }
-    ensures told { EndsText (λ text. text.items) (held W.contents output.old) (held W.contents output.new) (writer_failed output.new) text status result }
-{
-    let printed = print_text(text, status, output);
-    if matches!(printed, Status::Refused) {
-        tell_unprinted(run, is_saved);
-    }
-    printed
-}
-
-// The same, where nothing is said.
-fn print_text<W: Write>(
-    text: Result<Vec<u8>, AllocError>,
-    status: Status,
-    output: &mut Output<'_, W>,
-) -> Status
-    requires open { IsFalse (writer_failed output.old) }
-    requires empty { pending output.old ≡ [] }
-    ensures same_writer { SameWriter output.old output.new }
-    ensures told { EndsText (λ text. text.items) (held W.contents output.old) (held W.contents output.new) (writer_failed output.new) text status result }
-{
-    match text {
-        Ok(text) => tell_line(&text, status, output),
-        Err(_) => Status::Refused,
-    }
 }

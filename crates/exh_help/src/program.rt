@@ -14,6 +14,13 @@ pub const USAGE: &str = "exhash create PATH [--cap N] [--wards N] [--keyer K]
        exhash del PATH --from - [--hex] [--wait SECONDS]
        exhash swap PATH KEY OLD NEW [--hex] [--wait SECONDS]
        exhash backup PATH NEW [--wait SECONDS]
+       exhash import PATH [--format words|tsv] [--hex] [--atomic]
+         [--create [--cap N] [--wards N] [--keyer K]] [--wait SECONDS] < PAIRS
+       exhash export PATH [--format words|tsv] [--hex] [--bare]
+         [--wait SECONDS]
+       exhash compact PATH [--cap N] [--wards N] [--keyer K]
+         [--wait SECONDS]
+       exhash stats PATH [--json] [--wait SECONDS]
        exhash check PATH
        exhash dump PATH
        exhash pairs PATH [--cap N] [--wards N] [--keyer K]
@@ -33,6 +40,10 @@ Examples:
   exhash swap people.exh ann red blue
   exhash del people.exh bob
   exhash backup people.exh people.copy
+  exhash export people.exh > people.text
+  exhash import people.exh < people.text
+  exhash compact people.exh
+  exhash stats people.exh
   exhash check people.exh
   exhash dump people.exh
   exhash pairs people.exh > people.pairs
@@ -47,7 +58,8 @@ Keys and values of create, get, put, del and swap are bytes as the shell hands
 them over, or hexadecimal with --hex. Writers wait for one another, 5 seconds or
 as long as --wait says, 0 to 86400, and readers for a change that is going on.
 
-Exit status of create, get, put, del, swap and backup:
+Exit status of create, get, put, del, swap, backup, import, export, compact and
+stats:
   0  done
   1  the file can't be read or isn't legal, has vanished, the system failed, or
      memory ended
@@ -55,6 +67,7 @@ Exit status of create, get, put, del, swap and backup:
   3  no such key; or not done by what stands there: `full`, `exists`, `differs`,
      `none`, or something at the path of a new file
   4  busy: another process had the file all the while
+  5  import put in some of the pairs
 Standard output has answers alone. Each refusal is a sentence on standard error,
 with the path, and with its number among all refusals in brackets at its end.
 Exit status of the other commands: 0 where the run is done, also with refused
@@ -62,18 +75,19 @@ lines, or the file is legal, or the new file is written, or all is settled; 1
 where it is refused or the run breaks off; 2 where the command line is wrong, or
 asks for help or for the version.
 
-Only create makes a file where there is none, beside load, serve and convert,
-which write whole ones. create, put, del and swap change a file of version 3 in
-place: after a crash the next run finds it as before the change or as after it.
+Only create and import --create make a file where there is none, beside load,
+serve and convert, which write whole ones. create, put, del, swap and import
+change a file of version 3 in place: after a crash the next run finds it as
+before the change or as after it.
 Else only an empty file, or one that begins as a page file, is saved over; by
 convert only an empty one. It is there whole until the new one is whole and on
 the disk, and where that fails it stays. The new one is another file: it has the
 old one's mode and, where the system allows it, owner and group, but not its
 access lists, its extended attributes and its hard links; its group may do what
 the mode says.
-One run at a time saves to a file. put, del and swap lock it from before they
-read it until it is saved, load, serve and convert to save it; a file that
-another process has locked isn't saved to, nor is one on a file system without
+One run at a time saves to a file. put, del, swap, import and compact lock it
+from before they read it until it is saved, load, serve and convert to save it;
+a file that another process has locked isn't saved to, nor is one on a file system without
 locks. load and serve wait 5 seconds for the lock. Who may read a file may lock
 it, and so keep others from saving to it. Of two runs that opened one file the
 later to save is refused, so that nothing that was saved is lost. Programs that

@@ -2,7 +2,7 @@
 use Rattle.std.specs.Prelude.{ℕ, Bool, true, false, List, Option, Some, None, codes, if◌then◌else◌}
 use Rattle.std.specs.Str.{bytes_eq}
 use Rattle.exh_request.specs.declared.everyday_command.EverydayCommand.{EverydayCommand}
-use Rattle.exh_request.specs.declared.everyday_command.EverydayCommand.TheVariants.{Create, Get, Put, Del, Swap, Backup}
+use Rattle.exh_request.specs.declared.everyday_command.EverydayCommand.TheVariants.{Create, Get, Put, Del, Swap, Backup, Import, Export, Compact, Stats}
 use Rattle.exh_request.specs.declared.command_option.CommandOption.{CommandOption}
 use Rattle.exh_request.specs.declared.command_option.CommandOption.TheVariants as option
 
@@ -11,15 +11,24 @@ abbrev pub command_named : List ℕ → Option EverydayCommand
 command_named word =
     if bytes_eq word (codes "create") then Some Create
     else (if bytes_eq word (codes "backup") then Some Backup
+    else (if bytes_eq word (codes "import") then Some Import
+    else (if bytes_eq word (codes "export") then Some Export
+    else (if bytes_eq word (codes "compact") then Some Compact
+    else (if bytes_eq word (codes "stats") then Some Stats
     else (if bytes_eq word (codes "get") then Some Get
     else (if bytes_eq word (codes "put") then Some Put
     else (if bytes_eq word (codes "del") then Some Del
-    else (if bytes_eq word (codes "swap") then Some Swap else None)))))
+    else (if bytes_eq word (codes "swap") then Some Swap else None)))))))))
 
 -- the option of a name, without its two dashes
 abbrev pub option_named : List ℕ → Option CommandOption
 option_named name =
     if bytes_eq name (codes "replace") then Some option.Replace
+    else (if bytes_eq name (codes "format") then Some option.Format
+    else (if bytes_eq name (codes "create") then Some option.Create
+    else (if bytes_eq name (codes "atomic") then Some option.Atomic
+    else (if bytes_eq name (codes "bare") then Some option.Bare
+    else (if bytes_eq name (codes "json") then Some option.Json
     else (if bytes_eq name (codes "wait") then Some option.Wait
     else (if bytes_eq name (codes "hex") then Some option.Hex
     else (if bytes_eq name (codes "raw") then Some option.Raw
@@ -27,7 +36,7 @@ option_named name =
     else (if bytes_eq name (codes "from") then Some option.From
     else (if bytes_eq name (codes "cap") then Some option.Cap
     else (if bytes_eq name (codes "wards") then Some option.Wards
-    else (if bytes_eq name (codes "keyer") then Some option.Keyer else None))))))))
+    else (if bytes_eq name (codes "keyer") then Some option.Keyer else None)))))))))))))
 
 abbrev pub is_same_option : CommandOption → CommandOption → Bool
 is_same_option option.Wait option.Wait = true
@@ -39,6 +48,11 @@ is_same_option option.From option.From = true
 is_same_option option.Cap option.Cap = true
 is_same_option option.Wards option.Wards = true
 is_same_option option.Keyer option.Keyer = true
+is_same_option option.Format option.Format = true
+is_same_option option.Create option.Create = true
+is_same_option option.Atomic option.Atomic = true
+is_same_option option.Bare option.Bare = true
+is_same_option option.Json option.Json = true
 is_same_option option other = false
 
 -- a value belongs to the option
@@ -52,6 +66,11 @@ has_value option.From = true
 has_value option.Cap = true
 has_value option.Wards = true
 has_value option.Keyer = true
+has_value option.Format = true
+has_value option.Create = false
+has_value option.Atomic = false
+has_value option.Bare = false
+has_value option.Json = false
 
 -- the options of a command
 abbrev pub takes : EverydayCommand → CommandOption → Bool
@@ -69,6 +88,20 @@ takes Put option.Replace = true
 takes Del option.Hex = true
 takes Del option.From = true
 takes Swap option.Hex = true
+takes Import option.Format = true
+takes Import option.Hex = true
+takes Import option.Create = true
+takes Import option.Atomic = true
+takes Import option.Cap = true
+takes Import option.Wards = true
+takes Import option.Keyer = true
+takes Export option.Format = true
+takes Export option.Hex = true
+takes Export option.Bare = true
+takes Compact option.Cap = true
+takes Compact option.Wards = true
+takes Compact option.Keyer = true
+takes Stats option.Json = true
 takes command other = false
 
 -- an everyday command's name, as its usage has it
@@ -79,3 +112,7 @@ command_word Put = codes "put"
 command_word Del = codes "del"
 command_word Swap = codes "swap"
 command_word Backup = codes "backup"
+command_word Import = codes "import"
+command_word Export = codes "export"
+command_word Compact = codes "compact"
+command_word Stats = codes "stats"

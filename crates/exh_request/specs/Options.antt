@@ -1,5 +1,5 @@
 -- What the options of a command say.
-use Rattle.std.specs.Prelude.{◌&&◌, ℕ, Bool, true, false, List, [], ◌∷◌, leb, nat_lt, count_by, Option, Some, None, is_some, Result, Ok, Err, codes, if◌then◌else◌}
+use Rattle.std.specs.Prelude.{◌&&◌, ◌||◌, ℕ, Bool, true, false, List, [], ◌∷◌, leb, nat_lt, count_by, Option, Some, None, is_some, unwrap_or, Result, Ok, Err, codes, if◌then◌else◌}
 use Rattle.std.specs.Str.{bytes_eq}
 use Rattle.exh_keyer.specs.declared.any_keyer.AnyKeyer.{AnyKeyer}
 use Rattle.exh_keyer.specs.declared.any_keyer.AnyKeyer.TheVariants.{Sha}
@@ -8,8 +8,12 @@ use Rattle.exh_prefix.specs.declared.prefix.TheConstants.{WARD_BITS_LIMIT}
 use Rattle.exh_settings.specs.Keyers.{keyer_named}
 use Rattle.exh_settings.specs.declared.file_settings.FileSettings.{FileSettings}
 use Rattle.exh_text.specs.Numbers.{number_spelled}
+use Rattle.exh_pair_text.specs.Formats.{format_named}
+use Rattle.exh_pair_text.specs.declared.pair_format.PairFormat.{PairFormat}
+use Rattle.exh_pair_text.specs.declared.pair_format.PairFormat.TheVariants.{Words}
 use Rattle.exh_request.specs.declared.command_option.CommandOption.{CommandOption}
-use Rattle.exh_request.specs.declared.command_option.CommandOption.TheVariants.{Cap, From, Hex, Keyer, New, Raw, Replace, Wait, Wards}
+use Rattle.exh_request.specs.declared.command_option.CommandOption.TheVariants.{Atomic, Bare, Cap, Create, Format, From, Hex, Json, Keyer, New, Raw, Replace, Wait, Wards}
+use Rattle.exh_request.specs.declared.given_settings.GivenSettings.{GivenSettings}
 use Rattle.exh_request.specs.declared.options.Options.{Options}
 use Rattle.exh_request.specs.declared.options.TheConstants.{USUAL_WAIT, WAIT_LIMIT}
 use Rattle.exh_request.specs.declared.put_when.PutWhen.{PutWhen}
@@ -44,31 +48,52 @@ repeated uses = repeated_of uses uses
 -- ---- what one says, or what holds where it isn't used
 
 -- a number from the least to the greatest
-abbrev pub number_by : CommandOption → ℕ → ℕ → Option ℕ → Result ℕ WrongCause
+abbrev pub number_by : CommandOption → ℕ → ℕ → Option ℕ → Result (Option ℕ) WrongCause
 number_by option least greatest None = Err (BadValue option)
-number_by option least greatest (Some number) = if leb least number && leb number greatest then Ok number else Err (BadValue option)
+number_by option least greatest (Some number) = if leb least number && leb number greatest then Ok (Some number) else Err (BadValue option)
 
-abbrev pub number_of_word : CommandOption → ℕ → ℕ → ℕ → Option (List ℕ) → Result ℕ WrongCause
-number_of_word option usual least greatest None = Ok usual
-number_of_word option usual least greatest (Some word) = number_by option least greatest (number_spelled word)
+abbrev pub number_of_word : CommandOption → ℕ → ℕ → Option (List ℕ) → Result (Option ℕ) WrongCause
+number_of_word option least greatest None = Ok None
+number_of_word option least greatest (Some word) = number_by option least greatest (number_spelled word)
 
+abbrev pub number_given : CommandOption → ℕ → ℕ → List UsedOption → Result (Option ℕ) WrongCause
+number_given option least greatest uses = number_of_word option least greatest (value_given option uses)
+
+-- or the usual number
 abbrev pub number_asked : CommandOption → ℕ → ℕ → ℕ → List UsedOption → Result ℕ WrongCause
-number_asked option usual least greatest uses = number_of_word option usual least greatest (value_given option uses)
+number_asked option usual least greatest uses = number_given option least greatest uses >>= λ given. Ok (unwrap_or given usual)
 
-abbrev pub keyer_by : Option AnyKeyer → Result AnyKeyer WrongCause
+abbrev pub keyer_by : Option AnyKeyer → Result (Option AnyKeyer) WrongCause
 keyer_by None = Err (BadValue Keyer)
-keyer_by (Some keyer) = Ok keyer
+keyer_by (Some keyer) = Ok (Some keyer)
 
-abbrev pub keyer_of_word : Option (List ℕ) → Result AnyKeyer WrongCause
-keyer_of_word None = Ok Sha
+abbrev pub keyer_of_word : Option (List ℕ) → Result (Option AnyKeyer) WrongCause
+keyer_of_word None = Ok None
 keyer_of_word (Some word) = keyer_by (keyer_named word)
 
-abbrev pub settings_asked : List UsedOption → Result (FileSettings AnyKeyer) WrongCause
-settings_asked uses = do
-  cap ← number_asked Cap 16 1 CAP_LIMIT uses
-  wards ← number_asked Wards 0 0 WARD_BITS_LIMIT uses
+abbrev pub given_asked : List UsedOption → Result GivenSettings WrongCause
+given_asked uses = do
+  cap ← number_given Cap 1 CAP_LIMIT uses
+  wards ← number_given Wards 0 WARD_BITS_LIMIT uses
   keyer ← keyer_of_word (value_given Keyer uses)
   Ok (record { cap = cap; ward_bits = wards; keyer = keyer })
+
+-- one is named
+abbrev pub is_given : GivenSettings → Bool
+is_given given = is_some given.cap || is_some given.ward_bits || is_some given.keyer
+
+-- those of a new file
+abbrev pub new_settings : GivenSettings → FileSettings AnyKeyer
+new_settings given = record { cap = unwrap_or given.cap 16; ward_bits = unwrap_or given.ward_bits 0; keyer = unwrap_or given.keyer Sha }
+
+-- pairs stand as words where no format is named
+abbrev pub format_by : Option PairFormat → Result PairFormat WrongCause
+format_by None = Err (BadValue Format)
+format_by (Some format) = Ok format
+
+abbrev pub format_of_word : Option (List ℕ) → Result PairFormat WrongCause
+format_of_word None = Ok Words
+format_of_word (Some word) = format_by (format_named word)
 
 -- the keys stand on standard input, which is named `-`
 abbrev pub from_word : Option (List ℕ) → Result Bool WrongCause
@@ -87,10 +112,11 @@ when_by true true = Err NewAndReplace
 abbrev pub options_by : List UsedOption → Result Options WrongCause
 options_by uses = do
   wait ← number_asked Wait USUAL_WAIT 0 WAIT_LIMIT uses
-  settings ← settings_asked uses
+  given ← given_asked uses
   is_from ← from_word (value_given From uses)
   when ← when_by (is_used New uses) (is_used Replace uses)
-  Ok (record { wait = wait; form = record { is_hex = is_used Hex uses; is_raw = is_used Raw uses }; when = when; is_from = is_from; settings = settings })
+  format ← format_of_word (value_given Format uses)
+  Ok (record { wait = wait; form = record { is_hex = is_used Hex uses; is_raw = is_used Raw uses }; when = when; is_from = is_from; given = given; format = format; is_create = is_used Create uses; is_atomic = is_used Atomic uses; is_bare = is_used Bare uses; is_json = is_used Json uses })
 
 -- each option is used at most once
 abbrev pub once : Option CommandOption → Result Options WrongCause → Result Options WrongCause

@@ -6,8 +6,11 @@ use Rattle.exh_settings.specs.declared.file_settings.FileSettings.{FileSettings}
 use Rattle.exh_request.specs.declared.action.Action.{Action}
 use Rattle.exh_request.specs.declared.action.Action.TheVariants as actions
 use Rattle.exh_request.specs.declared.everyday_command.EverydayCommand.{EverydayCommand}
-use Rattle.exh_request.specs.declared.everyday_command.EverydayCommand.TheVariants.{Create, Get, Put, Del, Swap, Backup}
+use Rattle.exh_request.specs.declared.everyday_command.EverydayCommand.TheVariants.{Create, Get, Put, Del, Swap, Backup, Import, Export, Compact, Stats}
 use Rattle.exh_request.specs.declared.form.Form.{Form}
+use Rattle.exh_request.specs.declared.given_settings.GivenSettings.{GivenSettings}
+use Rattle.exh_request.specs.declared.import_words.ImportWords.{ImportWords}
+use Rattle.exh_pair_text.specs.declared.pair_format.PairFormat.{PairFormat}
 use Rattle.exh_request.specs.declared.keys.Keys.{Keys}
 use Rattle.exh_request.specs.declared.keys.Keys.TheVariants as keys
 use Rattle.exh_request.specs.declared.new_value.NewValue.{NewValue}
@@ -20,12 +23,12 @@ use Rattle.exh_request.specs.declared.request.Request.{Request}
 use Rattle.exh_request.specs.declared.fault.RequestFault.{RequestFault}
 use Rattle.exh_request.specs.declared.fault.RequestFault.TheVariants as faults
 use Rattle.exh_request.specs.declared.wrong_request.WrongCause.{WrongCause}
-use Rattle.exh_request.specs.declared.wrong_request.WrongCause.TheVariants.{Missing, PathNotText, RawKeys, TooMany}
+use Rattle.exh_request.specs.declared.wrong_request.WrongCause.TheVariants.{Missing, PathNotText, RawKeys, SettingsOfNone, TooMany}
 use Rattle.exh_request.specs.Arguments.{key_asked, value_asked}
 use Rattle.exh_request.specs.Causes.{◌>>=◌}
 use Rattle.exh_request.specs.Commands.{command_named}
 use Rattle.exh_request.specs.Line.{PlacedWord, line_asked}
-use Rattle.exh_request.specs.Options.{options_asked}
+use Rattle.exh_request.specs.Options.{is_given, new_settings, options_asked}
 
 -- ---- what is asked for, with the texts of its paths
 
@@ -41,6 +44,10 @@ pub data ActionText : Type 0 where
   Deleting : KeysText → ActionText
   Swapping : List ℕ → List ℕ → List ℕ → ActionText
   Copying : List ℕ → ActionText
+  Importing : ImportWords → ActionText
+  Exporting : PairFormat → Bool → ActionText
+  Compacting : GivenSettings → ActionText
+  Counting : Bool → ActionText
 
 pub record RequestText : Type 0 where
   pub path : List ℕ
@@ -61,6 +68,10 @@ action_text (actions.Put key value when) = Putting key value when
 action_text (actions.Del which) = Deleting (keys_text which)
 action_text (actions.Swap key old new) = Swapping key old new
 action_text (actions.Backup new) = Copying new.now
+action_text (actions.Import words) = Importing words
+action_text (actions.Export format bare) = Exporting format bare
+action_text (actions.Compact given) = Compacting given
+action_text (actions.Stats json) = Counting json
 
 abbrev pub request_text : Request → RequestText
 request_text request = record { path = request.path.now; action = action_text request.action; wait = request.wait; form = request.form }
@@ -125,13 +136,38 @@ swap_asked is_hex (key ∷ old ∷ new ∷ []) = swap_of is_hex key old new
 swap_asked is_hex (key ∷ old ∷ new ∷ next ∷ rest) = Err TooMany
 
 abbrev pub create_asked : Options → List PlacedWord → Result ActionText WrongCause
-create_asked options [] = Ok (Creating options.settings)
+create_asked options [] = Ok (Creating (new_settings options.given))
 create_asked options (one ∷ rest) = Err TooMany
 
 abbrev pub backup_asked : List PlacedWord → Result ActionText WrongCause
 backup_asked [] = Err (Missing at.NewPath)
 backup_asked (new ∷ []) = path_asked at.NewPath new.word >>= λ path. Ok (Copying path)
 backup_asked (new ∷ next ∷ rest) = Err TooMany
+
+-- settings are those of a file that is made
+abbrev pub made_by : Options → Option (FileSettings AnyKeyer)
+made_by options = if options.is_create then Some (new_settings options.given) else None
+
+abbrev pub import_of : Options → Result ActionText WrongCause
+import_of options =
+    if is_given options.given && not options.is_create then Err SettingsOfNone
+    else Ok (Importing (record { format = options.format; is_atomic = options.is_atomic; create = made_by options }))
+
+abbrev pub import_asked : Options → List PlacedWord → Result ActionText WrongCause
+import_asked options [] = import_of options
+import_asked options (one ∷ rest) = Err TooMany
+
+abbrev pub export_asked : Options → List PlacedWord → Result ActionText WrongCause
+export_asked options [] = Ok (Exporting options.format options.is_bare)
+export_asked options (one ∷ rest) = Err TooMany
+
+abbrev pub compact_asked : Options → List PlacedWord → Result ActionText WrongCause
+compact_asked options [] = Ok (Compacting options.given)
+compact_asked options (one ∷ rest) = Err TooMany
+
+abbrev pub stats_asked : Options → List PlacedWord → Result ActionText WrongCause
+stats_asked options [] = Ok (Counting options.is_json)
+stats_asked options (one ∷ rest) = Err TooMany
 
 -- what the command does, by the words behind its path
 abbrev pub action_asked : EverydayCommand → Options → List PlacedWord → Result ActionText WrongCause
@@ -141,6 +177,10 @@ action_asked Put options places = put_asked options places
 action_asked Del options places = keys_asked options places >>= λ which. Ok (Deleting which)
 action_asked Swap options places = swap_asked options.form.is_hex places
 action_asked Backup options places = backup_asked places
+action_asked Import options places = import_asked options places
+action_asked Export options places = export_asked options places
+action_asked Compact options places = compact_asked options places
+action_asked Stats options places = stats_asked options places
 
 -- ---- the words behind a command
 

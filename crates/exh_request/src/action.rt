@@ -1,8 +1,9 @@
 //! What a request is to do.
 
-use crate::{Keys, NewValue, PutWhen};
+use crate::{GivenSettings, ImportWords, Keys, NewValue, PutWhen};
 use exh_keyer::AnyKeyer;
 use exh_page::{Key, Value};
+use exh_pair_text::PairFormat;
 use exh_settings::FileSettings;
 
 /// What a request does with the page file of its path.
@@ -29,5 +30,20 @@ pub enum Action<'w> {
     /// Copy it to this new path.
     Backup {
         new: &'w str,
+    },
+    /// Put the pairs of standard input in.
+    Import(ImportWords),
+    /// Print its pairs.
+    Export {
+        format: PairFormat,
+        /// Without the lines that say where the pairs begin and end, by `--bare`.
+        is_bare: bool,
+    },
+    /// Make it anew with as few pages as its pairs take, of these settings, and its own where none are named.
+    Compact(GivenSettings),
+    /// Print what it has and takes.
+    Stats {
+        /// As one JSON object, by `--json`.
+        is_json: bool,
     },
 }

@@ -2,7 +2,7 @@
 ghost use Rattle.std.specs.Prelude.{◌≡◌, map, option_map, IfOk, IfErr};
 ghost use Rattle.exh_request.specs.Causes.{IsCauseOf};
 ghost use Rattle.exh_request.specs.Line.{placed_word};
-ghost use Rattle.exh_request.specs.Request.{IsAnswered, action_asked, action_text, ask_for_help, backup_asked, called, create_asked, help_of, is_help, keys_asked, keys_text, new_value_asked, put_asked, put_of, request_behind, request_text, several_asked, swap_asked, swap_of};
+ghost use Rattle.exh_request.specs.Request.{IsAnswered, action_asked, action_text, ask_for_help, backup_asked, called, compact_asked, create_asked, export_asked, help_of, import_asked, is_help, keys_asked, keys_text, new_value_asked, put_asked, put_of, request_behind, request_text, several_asked, stats_asked, swap_asked, swap_of};
 
 use crate::argument::{key_of, path_of, value_of};
 use crate::cause_or_memory::CauseOrMemory;
@@ -10,7 +10,7 @@ use crate::line::{Line, Placed};
 use crate::options::Options;
 use crate::word::is_word;
 use crate::{
-    Action, EverydayCommand, Keys, NewValue, Place, Request, RequestFault, WrongCause, WrongRequest,
+    Action, EverydayCommand, ImportWords, Keys, NewValue, Place, Request, RequestFault, WrongCause, WrongRequest,
 };
 use exh_page::Key;
 use std::alloc::Global;
@@ -123,6 +123,10 @@ fn action_of<'w>(
         EverydayCommand::Del => Ok(Action::Del(keys(alloc, places, options)?)),
         EverydayCommand::Swap => swap(alloc, places, options.form.is_hex),
         EverydayCommand::Backup => backup(places),
+        EverydayCommand::Import => import(places, options),
+        EverydayCommand::Export => export(places, options),
+        EverydayCommand::Compact => compact(places, options),
+        EverydayCommand::Stats => stats(places, options),
     }
 }
 
@@ -131,7 +135,7 @@ fn create<'w>(places: &[Placed<'w>], options: &Options) -> Result<Action<'w>, Ca
     ensures wrong { IfErr result (IsCauseOf (create_asked options.now (map placed_word places.now))) }
 {
     match places {
-        [] => Ok(Action::Create(options.settings)),
+        [] => Ok(Action::Create(options.given.of_new())),
         _ => Err(CauseOrMemory::Wrong(WrongCause::TooMany)),
     }
 }
@@ -144,6 +148,63 @@ fn backup<'w>(places: &[Placed<'w>]) -> Result<Action<'w>, CauseOrMemory>
         [] => Err(CauseOrMemory::Wrong(WrongCause::Missing(Place::NewPath))),
         [new] => Ok(Action::Backup {
             new: path_of(new.word, Place::NewPath)?,
+        }),
+        _ => Err(CauseOrMemory::Wrong(WrongCause::TooMany)),
+    }
+}
+
+// Settings are those of a file that is made.
+fn import<'w>(places: &[Placed<'w>], options: &Options) -> Result<Action<'w>, CauseOrMemory>
+    ensures ok { IfOk result (λ done. import_asked options.now (map placed_word places.now) ≡ Ok (action_text done)) }
+    ensures wrong { IfErr result (IsCauseOf (import_asked options.now (map placed_word places.now))) }
+{
+    match places {
+        [] if options.given.is_some() && !options.is_create => {
+            Err(CauseOrMemory::Wrong(WrongCause::SettingsOfNone))
+        }
+        [] => Ok(Action::Import(ImportWords {
+            format: options.format,
+            is_atomic: options.is_atomic,
+            create: if options.is_create {
+                Some(options.given.of_new())
+            } else {
+                None
+            },
+        })),
+        _ => Err(CauseOrMemory::Wrong(WrongCause::TooMany)),
+    }
+}
+
+fn export<'w>(places: &[Placed<'w>], options: &Options) -> Result<Action<'w>, CauseOrMemory>
+    ensures ok { IfOk result (λ done. export_asked options.now (map placed_word places.now) ≡ Ok (action_text done)) }
+    ensures wrong { IfErr result (IsCauseOf (export_asked options.now (map placed_word places.now))) }
+{
+    match places {
+        [] => Ok(Action::Export {
+            format: options.format,
+            is_bare: options.is_bare,
+        }),
+        _ => Err(CauseOrMemory::Wrong(WrongCause::TooMany)),
+    }
+}
+
+fn compact<'w>(places: &[Placed<'w>], options: &Options) -> Result<Action<'w>, CauseOrMemory>
+    ensures ok { IfOk result (λ done. compact_asked options.now (map placed_word places.now) ≡ Ok (action_text done)) }
+    ensures wrong { IfErr result (IsCauseOf (compact_asked options.now (map placed_word places.now))) }
+{
+    match places {
+        [] => Ok(Action::Compact(options.given)),
+        _ => Err(CauseOrMemory::Wrong(WrongCause::TooMany)),
+    }
+}
+
+fn stats<'w>(places: &[Placed<'w>], options: &Options) -> Result<Action<'w>, CauseOrMemory>
+    ensures ok { IfOk result (λ done. stats_asked options.now (map placed_word places.now) ≡ Ok (action_text done)) }
+    ensures wrong { IfErr result (IsCauseOf (stats_asked options.now (map placed_word places.now))) }
+{
+    match places {
+        [] => Ok(Action::Stats {
+            is_json: options.is_json,
         }),
         _ => Err(CauseOrMemory::Wrong(WrongCause::TooMany)),
     }

@@ -16,6 +16,11 @@ pub enum CommandOption {
     Cap,
     Wards,
     Keyer,
+    Format,
+    Create,
+    Atomic,
+    Bare,
+    Json,
 }
 
 impl CommandOption {
@@ -31,6 +36,11 @@ impl CommandOption {
             CommandOption::Cap => "cap",
             CommandOption::Wards => "wards",
             CommandOption::Keyer => "keyer",
+            CommandOption::Format => "format",
+            CommandOption::Create => "create",
+            CommandOption::Atomic => "atomic",
+            CommandOption::Bare => "bare",
+            CommandOption::Json => "json",
         }
     }
 
@@ -42,8 +52,15 @@ impl CommandOption {
             CommandOption::Cap => "a number from 1 to 16",
             CommandOption::Wards => "a number from 0 to 4",
             CommandOption::Keyer => "`sha` or `plain`",
-            CommandOption::Hex | CommandOption::Raw | CommandOption::New | CommandOption::Replace =>
-                "no value",
+            CommandOption::Format => "`words` or `tsv`",
+            CommandOption::Hex
+            | CommandOption::Raw
+            | CommandOption::New
+            | CommandOption::Replace
+            | CommandOption::Create
+            | CommandOption::Atomic
+            | CommandOption::Bare
+            | CommandOption::Json => "no value",
         }
     }
 
@@ -53,6 +70,11 @@ impl CommandOption {
     {
         match name {
             _ if is_word(name, "replace") => Some(CommandOption::Replace),
+            _ if is_word(name, "format") => Some(CommandOption::Format),
+            _ if is_word(name, "create") => Some(CommandOption::Create),
+            _ if is_word(name, "atomic") => Some(CommandOption::Atomic),
+            _ if is_word(name, "bare") => Some(CommandOption::Bare),
+            _ if is_word(name, "json") => Some(CommandOption::Json),
             b"wait" => Some(CommandOption::Wait),
             b"hex" => Some(CommandOption::Hex),
             b"raw" => Some(CommandOption::Raw),
@@ -74,9 +96,16 @@ impl CommandOption {
             | CommandOption::From
             | CommandOption::Cap
             | CommandOption::Wards
-            | CommandOption::Keyer => true,
-            CommandOption::Hex | CommandOption::Raw | CommandOption::New | CommandOption::Replace =>
-                false,
+            | CommandOption::Keyer
+            | CommandOption::Format => true,
+            CommandOption::Hex
+            | CommandOption::Raw
+            | CommandOption::New
+            | CommandOption::Replace
+            | CommandOption::Create
+            | CommandOption::Atomic
+            | CommandOption::Bare
+            | CommandOption::Json => false,
         }
     }
 
@@ -93,7 +122,12 @@ impl CommandOption {
             | (CommandOption::From, CommandOption::From)
             | (CommandOption::Cap, CommandOption::Cap)
             | (CommandOption::Wards, CommandOption::Wards)
-            | (CommandOption::Keyer, CommandOption::Keyer) => true,
+            | (CommandOption::Keyer, CommandOption::Keyer)
+            | (CommandOption::Format, CommandOption::Format)
+            | (CommandOption::Create, CommandOption::Create)
+            | (CommandOption::Atomic, CommandOption::Atomic)
+            | (CommandOption::Bare, CommandOption::Bare)
+            | (CommandOption::Json, CommandOption::Json) => true,
             _ => false,
         }
     }

@@ -14,6 +14,10 @@ pub enum EverydayCommand {
     Del,
     Swap,
     Backup,
+    Import,
+    Export,
+    Compact,
+    Stats,
 }
 
 impl EverydayCommand {
@@ -28,6 +32,10 @@ impl EverydayCommand {
             EverydayCommand::Del => "del",
             EverydayCommand::Swap => "swap",
             EverydayCommand::Backup => "backup",
+            EverydayCommand::Import => "import",
+            EverydayCommand::Export => "export",
+            EverydayCommand::Compact => "compact",
+            EverydayCommand::Stats => "stats",
         }
     }
 
@@ -38,6 +46,10 @@ impl EverydayCommand {
         match word {
             _ if is_word(word, "create") => Some(EverydayCommand::Create),
             _ if is_word(word, "backup") => Some(EverydayCommand::Backup),
+            _ if is_word(word, "import") => Some(EverydayCommand::Import),
+            _ if is_word(word, "export") => Some(EverydayCommand::Export),
+            _ if is_word(word, "compact") => Some(EverydayCommand::Compact),
+            _ if is_word(word, "stats") => Some(EverydayCommand::Stats),
             b"get" => Some(EverydayCommand::Get),
             b"put" => Some(EverydayCommand::Put),
             b"del" => Some(EverydayCommand::Del),
@@ -67,6 +79,25 @@ impl EverydayCommand {
             ) => true,
             (EverydayCommand::Del, CommandOption::Hex | CommandOption::From) => true,
             (EverydayCommand::Swap, CommandOption::Hex) => true,
+            (
+                EverydayCommand::Import,
+                CommandOption::Format
+                | CommandOption::Hex
+                | CommandOption::Create
+                | CommandOption::Atomic
+                | CommandOption::Cap
+                | CommandOption::Wards
+                | CommandOption::Keyer,
+            ) => true,
+            (
+                EverydayCommand::Export,
+                CommandOption::Format | CommandOption::Hex | CommandOption::Bare,
+            ) => true,
+            (
+                EverydayCommand::Compact,
+                CommandOption::Cap | CommandOption::Wards | CommandOption::Keyer,
+            ) => true,
+            (EverydayCommand::Stats, CommandOption::Json) => true,
             _ => false,
         }
     }

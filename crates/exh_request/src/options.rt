@@ -1,16 +1,17 @@
 //! What the options of a command say.
 
-ghost use Rattle.std.specs.Prelude.{◌≡◌, ◌≤◌, map, IfOk};
+ghost use Rattle.std.specs.Prelude.{◌≡◌, ◌≤◌, map, IfOk, IfSome};
 ghost use Rattle.exh_request.specs.Line.{used_option};
-ghost use Rattle.exh_request.specs.Options.{from_word, is_used, keyer_of_word, number_asked, options_asked, settings_asked, value_given, when_by};
-ghost use Rattle.exh_request.specs.declared.command_option.CommandOption.TheVariants.{From, Keyer, New, Replace};
+ghost use Rattle.exh_request.specs.Options.{format_of_word, from_word, given_asked, is_used, keyer_of_word, number_asked, number_given, options_asked, value_given, when_by};
+ghost use Rattle.exh_request.specs.declared.command_option.CommandOption.TheVariants.{Format, From, Keyer, New, Replace};
 
 use crate::line::Line;
-use crate::{CommandOption, Form, PutWhen, WrongCause};
+use crate::{CommandOption, Form, GivenSettings, PutWhen, WrongCause};
 use exh_keyer::AnyKeyer;
 use exh_page::CAP_LIMIT;
+use exh_pair_text::PairFormat;
 use exh_prefix::WARD_BITS_LIMIT;
-use exh_settings::{FileSettings, keyer_named};
+use exh_settings::keyer_named;
 use exh_text::parse_u32;
 
 /// How many seconds another process is waited for, where no option says it.
@@ -27,7 +28,16 @@ pub(crate) struct Options {
     pub(crate) when: PutWhen,
     /// Whether the keys stand on standard input.
     pub(crate) is_from: bool,
-    pub(crate) settings: FileSettings<AnyKeyer>,
+    pub(crate) given: GivenSettings,
+    pub(crate) format: PairFormat,
+    /// Whether a file is made where none is.
+    pub(crate) is_create: bool,
+    /// Whether all pairs are put in or none.
+    pub(crate) is_atomic: bool,
+    /// Whether pairs stand without a first line and a last one.
+    pub(crate) is_bare: bool,
+    /// Whether numbers are printed as JSON.
+    pub(crate) is_json: bool,
 }
 
 impl Options {
@@ -39,9 +49,10 @@ impl Options {
             return Err(WrongCause::Twice(option));
         }
         let wait = number_of(line, CommandOption::Wait, USUAL_WAIT, 0, WAIT_LIMIT)?;
-        let settings = settings_of(line)?;
+        let given = given_of(line)?;
         let is_from = from_of(line)?;
         let when = when_of(line)?;
+        let format = format_of(line)?;
         let form = Form {
             is_hex: line.uses(CommandOption::Hex),
             is_raw: line.uses(CommandOption::Raw),
@@ -51,21 +62,26 @@ impl Options {
             form,
             when,
             is_from,
-            settings,
+            given,
+            format,
+            is_create: line.uses(CommandOption::Create),
+            is_atomic: line.uses(CommandOption::Atomic),
+            is_bare: line.uses(CommandOption::Bare),
+            is_json: line.uses(CommandOption::Json),
         })
     }
 }
 
-// The settings of a new file.
-fn settings_of(line: &Line<'_>) -> Result<FileSettings<AnyKeyer>, WrongCause>
-    ensures { result ≡ settings_asked (map used_option line.now.uses.items) }
+// The settings that are named.
+fn given_of(line: &Line<'_>) -> Result<GivenSettings, WrongCause>
+    ensures { result ≡ given_asked (map used_option line.now.uses.items) }
 {
-    let cap = number_of(line, CommandOption::Cap, 16, 1, CAP_LIMIT as u32)?;
-    let wards = number_of(line, CommandOption::Wards, 0, 0, u32::from(WARD_BITS_LIMIT))?;
+    let cap = number_in(line, CommandOption::Cap, 1, CAP_LIMIT as u32)?;
+    let wards = number_in(line, CommandOption::Wards, 0, u32::from(WARD_BITS_LIMIT))?;
     let keyer = keyer_of(line)?;
-    Ok(FileSettings {
-        cap: cap as u8,
-        ward_bits: wards as u8,
+    Ok(GivenSettings {
+        cap: cap.map(|cap| cap as u8),
+        ward_bits: wards.map(|wards| wards as u8),
         keyer,
     })
 }
@@ -78,29 +94,54 @@ fn number_of(
     least: u32,
     greatest: u32,
 ) -> Result<u32, WrongCause>
-    requires least { least ≤ usual }
-    requires greatest { usual ≤ greatest }
     ensures number { result ≡ number_asked option usual least greatest (map used_option line.now.uses.items) }
-    ensures least { IfOk result (λ number. least ≤ number) }
-    ensures greatest { IfOk result (λ number. number ≤ greatest) }
+{
+    match number_in(line, option, least, greatest)? {
+        Some(number) => Ok(number),
+        None => Ok(usual),
+    }
+}
+
+// The same, `None` where it isn't used.
+fn number_in(
+    line: &Line<'_>,
+    option: CommandOption,
+    least: u32,
+    greatest: u32,
+) -> Result<Option<u32>, WrongCause>
+    ensures number { result ≡ number_given option least greatest (map used_option line.now.uses.items) }
+    ensures greatest { IfOk result (λ given. IfSome given (λ number. number ≤ greatest)) }
 {
     let Some(word) = line.value(option) else {
-        return Ok(usual);
+        return Ok(None);
     };
     match parse_u32(word) {
-        Some(number) if least <= number && number <= greatest => Ok(number),
+        Some(number) if least <= number && number <= greatest => Ok(Some(number)),
         _ => Err(WrongCause::BadValue(option)),
     }
 }
 
-// The keyer of a new file.
-fn keyer_of(line: &Line<'_>) -> Result<AnyKeyer, WrongCause>
+// The keyer that is named.
+fn keyer_of(line: &Line<'_>) -> Result<Option<AnyKeyer>, WrongCause>
     ensures { result ≡ keyer_of_word (value_given Keyer (map used_option line.now.uses.items)) }
 {
     let Some(word) = line.value(CommandOption::Keyer) else {
-        return Ok(AnyKeyer::Sha);
+        return Ok(None);
     };
-    keyer_named(word).ok_or(WrongCause::BadValue(CommandOption::Keyer))
+    match keyer_named(word) {
+        Some(keyer) => Ok(Some(keyer)),
+        None => Err(WrongCause::BadValue(CommandOption::Keyer)),
+    }
+}
+
+// The format of pairs.
+fn format_of(line: &Line<'_>) -> Result<PairFormat, WrongCause>
+    ensures { result ≡ format_of_word (value_given Format (map used_option line.now.uses.items)) }
+{
+    let Some(word) = line.value(CommandOption::Format) else {
+        return Ok(PairFormat::Words);
+    };
+    PairFormat::named(word).ok_or(WrongCause::BadValue(CommandOption::Format))
 }
 
 // Whether the keys stand on standard input.

@@ -22,6 +22,8 @@ pub enum WrongCause {
     BadValue(CommandOption),
     /// `--new` and `--replace` stand there both.
     NewAndReplace,
+    /// Settings stand there, and no file is made.
+    SettingsOfNone,
     /// `--raw` stands there without one key alone.
     RawKeys,
     /// A word is missing that stands for this.
@@ -52,6 +54,10 @@ impl fmt::Display for WrongRequest {
             WrongCause::NewAndReplace => {
                 write!(f, "`{command}` takes --new or --replace, not both")
             }
+            WrongCause::SettingsOfNone => write!(
+                f,
+                "`{command}` takes --cap, --wards and --keyer only beside --create"
+            ),
             WrongCause::RawKeys => write!(f, "`{command} --raw` takes one KEY"),
             WrongCause::Missing(place) => write!(f, "`{command}` takes {}", place.with_article()),
             WrongCause::TooMany => write!(f, "`{command}` takes fewer words"),

@@ -1,12 +1,12 @@
 //! The end of a change in a store.
 
 use crate::refusal::tell_refused;
-use crate::run::Run;
+use crate::Run;
 use exhash::{Store, StoreError};
 
 /// Commits a store and lets its file go. Where only the folder isn't synchronized the change is saved, and standard error says
 /// so.
-pub(crate) fn save(run: &Run<'_>, store: Store<'_>) -> Result<(), StoreError> {
+pub fn save(run: &Run<'_>, store: Store<'_>) -> Result<(), StoreError> {
     match store.close() {
         Err(fault @ StoreError::Unsynchronized(_)) => {
             tell_refused(run.rt, run.path, &fault);

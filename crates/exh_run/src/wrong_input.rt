@@ -4,7 +4,7 @@ use thiserror::Error;
 
 /// Why standard input gives no keys, or no value.
 #[derive(Clone, Copy, Debug, Error)]
-pub(crate) enum WrongInput {
+pub enum WrongInput {
     /// The line of this number, from 1 on, is no key.
     #[error("line {0} is no key: a word of 1 to 64 bytes, as `pairs` prints it, or with --hex hexadecimal digits")]
     Line(u64),

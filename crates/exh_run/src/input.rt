@@ -1,7 +1,7 @@
 //! Keys and values of standard input.
 ghost use Rattle.std.specs.Prelude.{◌≡◌, IfErr};
 
-use crate::run::Run;
+use crate::Run;
 use crate::wrong_input::WrongInput;
 use exh_answer::Status;
 use exh_notes::ReasonReader;
@@ -17,7 +17,7 @@ use std::io::ErrorKind;
 
 /// The keys of standard input, one a line: a word of a text of pairs, or hexadecimal digits. Where a line is no key, or they
 /// aren't read, standard error says so, and the answer is the status with which the program ends.
-pub(crate) fn input_keys(run: &Run<'_>) -> Result<Vec<Key>, Status>
+pub fn input_keys(run: &Run<'_>) -> Result<Vec<Key>, Status>
     ensures { IfErr result (λ status. status ≡ Status.Refused) }
 {
     let alloc = run.rt.alloc();
@@ -33,7 +33,7 @@ pub(crate) fn input_keys(run: &Run<'_>) -> Result<Vec<Key>, Status>
 
 /// The value of standard input, of which one newline at its end is left off, unless it is to be kept. Where it is none, or
 /// isn't read, standard error says so, and the answer is the status with which the program ends.
-pub(crate) fn input_value(run: &Run<'_>) -> Result<Value, Status>
+pub fn input_value(run: &Run<'_>) -> Result<Value, Status>
     ensures { IfErr result (λ status. status ≡ Status.Refused) }
 {
     let value = match input_text(run) {

@@ -1,8 +1,8 @@
 //! What standard error says where a command is refused, or a key is absent, and the statuses of refusals.
 ghost use Rattle.std.specs.Prelude.{◌≡◌};
-ghost use Rattle.exh_everyday.specs.Endings.{change_status, reading_status};
+ghost use Rattle.exh_run.specs.Ends.{change_status, made_status, reading_status};
 
-use crate::run::Run;
+use crate::Run;
 use exh_answer::Status;
 use exh_backup::unread_at;
 use exh_notes::Escaped;
@@ -14,13 +14,13 @@ use std::fs;
 use std::io::ErrorKind;
 
 /// Says of the file of a path why a command is refused, in a sentence.
-pub(crate) fn tell_refused(rt: &impl Eprint, path: &str, fault: &StoreError) {
+pub fn tell_refused(rt: &impl Eprint, path: &str, fault: &StoreError) {
     let path = Escaped(path);
     let _ = eprintln!(rt; "exhash: {path}: {fault}");
 }
 
 /// Says why the file isn't read, and gives the status with which the program ends.
-pub(crate) fn refuse_reading(run: &Run<'_>, fault: StoreError) -> Status
+pub fn refuse_reading(run: &Run<'_>, fault: StoreError) -> Status
     ensures { result ≡ reading_status fault }
 {
     let status = reading_status(&fault);
@@ -30,7 +30,7 @@ pub(crate) fn refuse_reading(run: &Run<'_>, fault: StoreError) -> Status
 }
 
 /// Says why the file isn't changed, and gives the status with which the program ends.
-pub(crate) fn refuse_change(run: &Run<'_>, fault: StoreError) -> Status
+pub fn refuse_change(run: &Run<'_>, fault: StoreError) -> Status
     ensures { result ≡ change_status fault }
 {
     let status = change_status(&fault);
@@ -49,7 +49,7 @@ fn vanished(run: &Run<'_>, fault: StoreError) -> StoreError {
 }
 
 /// Whether nothing is at a path, as the system says it.
-pub(crate) fn is_nothing_at(rt: &HostRuntime, path: &str) -> bool {
+pub fn is_nothing_at(rt: &HostRuntime, path: &str) -> bool {
     match fs::symlink_metadata(rt, path) {
         Ok(_) => false,
         Err(error) => error.kind() == ErrorKind::NotFound,
@@ -76,8 +76,20 @@ fn change_status(fault: &StoreError) -> Status
     }
 }
 
+/// The status after a file was made, or wasn't.
+pub fn made_status(made: &Result<(), StoreError>) -> Status
+    ensures { result ≡ made_status made.now }
+{
+    match made {
+        Ok(()) | Err(StoreError::Unsynchronized(_)) => Status::Done,
+        Err(StoreError::Exists) => Status::Missing,
+        Err(StoreError::Busy) => Status::Busy,
+        Err(_) => Status::Refused,
+    }
+}
+
 /// Says that a key isn't there, as a word of a text of pairs has it.
-pub(crate) fn tell_absent(rt: &(impl Eprint + AllocGlobal), path: &str, key: &Key) {
+pub fn tell_absent(rt: &(impl Eprint + AllocGlobal), path: &str, key: &Key) {
     let path = Escaped(path);
     match key_word(rt, key) {
         Ok(word) => {
@@ -100,7 +112,7 @@ fn key_word(rt: &impl AllocGlobal, key: &Key) -> Result<String, AllocError> {
 }
 
 /// Says that an answer isn't printed, and why, and whether a change is saved all the same.
-pub(crate) fn tell_unprinted(run: &Run<'_>, is_saved: bool) {
+pub fn tell_unprinted(run: &Run<'_>, is_saved: bool) {
     let path = Escaped(run.path);
     let saved = if is_saved {
         "the change is saved, but "

@@ -1,0 +1,46 @@
+//! The help of `import`.
+
+/// What it does, in a line.
+pub const ABOUT: &str = "Puts the pairs of a text into a page file";
+
+/// How it is used.
+pub const USAGE: &str = "exhash import PATH [--format words|tsv] [--hex] [--atomic]
+         [--create [--cap N] [--wards N] [--keyer K]] [--wait SECONDS] < PAIRS
+
+Words behind `--` are no options, as in import -- --hex.
+
+Examples:
+  exhash export people.exh | exhash import new.exh --create
+  printf 'ann red\\nbob blue\\n' | exhash import people.exh
+  printf 'ann\\tdeep red\\n' | exhash import people.exh --format tsv --atomic";
+
+/// What help says behind its options.
+pub const TEXT: &str = "\
+It puts the pairs of standard input into the file, one a line; a key that is
+there gets the new value. The text may have any length; the file is changed
+every 4096 pairs, and others may change it in between. With --atomic all pairs
+are put in at once, or, where a line is wrong or a key finds no room, none.
+A line of the format `words` is
+  KEY VALUE
+with both as `exhash pairs` prints them; of the format `tsv` both stand as they
+are, with a tab between them, where \\t, \\n, \\r, \\\\ and \\xHH are a tab, a
+newline, a return, a backslash and the byte of two hexadecimal digits. With
+--hex both are hexadecimal digits. What `exhash export` prints goes in as it
+was. Where its first line is there and its last is missing, the text was cut:
+its last line isn't put in, and with --atomic none is. Empty lines are passed
+over. A line of more than 65536 bytes ends the import.
+Each line that is wrong, and each key that finds no room, is named on standard
+error. Then one line is printed,
+  imported N of M
+the pairs that are in the file of those that stood there. With --create a file
+is made where nothing is, as by `exhash create`.
+
+Exit status:
+  0  all pairs are in the file
+  1  the file can't be read or written or isn't legal, the text is cut off, has
+     a line that is too long or can't be read, or memory ends
+  2  the command line is wrong, or asks for help
+  3  with --atomic: a line is wrong, or a key finds no room; nothing is changed
+  4  busy: another process had the file locked all the while
+  5  the pairs are in the file but for those that standard error names
+The formats are in docs/FORMATS.md.";

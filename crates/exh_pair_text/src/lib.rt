@@ -1,0 +1,6 @@
+//! Stub.
+#![tactic(auto)]
+
+pub use pair_format::PairFormat;
+
+mod pair_format;

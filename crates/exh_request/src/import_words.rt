@@ -1,0 +1,16 @@
+//! How pairs are imported.
+
+use exh_keyer::AnyKeyer;
+use exh_pair_text::PairFormat;
+use exh_settings::FileSettings;
+
+/// How the pairs of standard input are put into a page file.
+#[derive(Clone, Copy)]
+pub struct ImportWords {
+    /// How they stand there.
+    pub format: PairFormat,
+    /// All of them or none, by `--atomic`.
+    pub is_atomic: bool,
+    /// The settings of the file that is made where none is, by `--create`.
+    pub create: Option<FileSettings<AnyKeyer>>,
+}

@@ -1,0 +1,2 @@
+-- how the run of a command ends
+pub mod Ends

@@ -1,0 +1,18 @@
+//! The run of an everyday command: what it has, what it reads of standard input, how it prints, and what standard error says
+//! where it is refused.
+#![tactic(auto)]
+
+pub use input::{input_keys, input_value};
+pub use printing::tell_text;
+pub use refusal::{
+    is_nothing_at, made_status, refuse_change, refuse_reading, tell_absent, tell_refused,
+};
+pub use run::Run;
+pub use saving::save;
+
+mod input;
+mod printing;
+mod refusal;
+mod run;
+mod saving;
+mod wrong_input;
