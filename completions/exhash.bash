@@ -4,7 +4,7 @@ _exhash() {
     local word=${COMP_WORDS[COMP_CWORD]} last=${COMP_WORDS[COMP_CWORD - 1]} options=--help
     COMPREPLY=()
     if ((COMP_CWORD == 1)); then
-        mapfile -t COMPREPLY < <(compgen -W 'create get put del swap backup check dump pairs load convert serve storm version manual help --help --version' -- "$word")
+        mapfile -t COMPREPLY < <(compgen -W 'create get put del swap backup import export compact stats check dump pairs load convert serve storm version manual help --help --version' -- "$word")
         return
     fi
     case ${COMP_WORDS[1]} in
@@ -13,16 +13,35 @@ _exhash() {
         check | dump) ;;
         backup) options='--wait --help' ;;
         version) [[ $word == -* ]] || return ;;
-        pairs | create)
+        pairs | create | compact | import)
             options='--cap --wards --keyer --help'
             [[ ${COMP_WORDS[1]} == pairs ]] || options+=' --wait'
+            [[ ${COMP_WORDS[1]} != import ]] || options+=' --format --hex --atomic --create'
             case $last in
                 --cap | --wards | --wait) return ;;
+                --format)
+                    mapfile -t COMPREPLY < <(compgen -W 'words tsv' -- "$word")
+                    return
+                    ;;
                 --keyer)
                     mapfile -t COMPREPLY < <(compgen -W 'sha plain' -- "$word")
                     return
                     ;;
             esac
+            ;;
+        export)
+            options='--format --hex --bare --wait --help'
+            case $last in
+                --wait) return ;;
+                --format)
+                    mapfile -t COMPREPLY < <(compgen -W 'words tsv' -- "$word")
+                    return
+                    ;;
+            esac
+            ;;
+        stats)
+            options='--json --wait --help'
+            [[ $last != --wait ]] || return
             ;;
         convert)
             options='--version --help'
@@ -37,7 +56,7 @@ _exhash() {
         del) options='--from --hex --wait --help' ;;
         swap) options='--hex --wait --help' ;;
         help | manual)
-            mapfile -t COMPREPLY < <(compgen -W 'create get put del swap backup check dump pairs load convert serve storm version manual' -- "$word")
+            mapfile -t COMPREPLY < <(compgen -W 'create get put del swap backup import export compact stats check dump pairs load convert serve storm version manual' -- "$word")
             return
             ;;
         *) return ;;

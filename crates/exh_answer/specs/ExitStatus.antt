@@ -6,7 +6,7 @@ use Rattle.exh_report.specs.declared.verdict.Verdict.TheVariants as verdict
 use Rattle.exh_command.specs.declared.fault.CliFault.{CliFault}
 use Rattle.exh_command.specs.declared.fault.CliFault.TheVariants as fault
 use Rattle.exh_answer.specs.declared.status.Status.{Status}
-use Rattle.exh_answer.specs.declared.status.Status.TheVariants.{Busy, Done, Missing, Refused, WrongWords}
+use Rattle.exh_answer.specs.declared.status.Status.TheVariants.{Busy, Done, Missing, Partly, Refused, WrongWords}
 
 -- after a run about a file: it is legal, or refused, or the run was cut off
 abbrev pub file_status : Result Verdict ReportFault → Status
@@ -25,3 +25,4 @@ code_of Refused = 1
 code_of WrongWords = 2
 code_of Missing = 3
 code_of Busy = 4
+code_of Partly = 5

@@ -20,6 +20,8 @@ pub enum Status {
     Missing,
     /// Another process had the file all the while, or changed it again and again while it was read: 4.
     Busy,
+    /// Some of what stood on standard input was done, and the rest said on standard error: 5.
+    Partly,
 }
 
 impl Status {
@@ -53,6 +55,7 @@ impl Status {
             Status::WrongWords => 2,
             Status::Missing => 3,
             Status::Busy => 4,
+            Status::Partly => 5,
         })
     }
 }

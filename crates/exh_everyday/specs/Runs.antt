@@ -19,6 +19,10 @@ use Rattle.exh_everyday.specs.declared.change.Change.TheVariants.{Put, PutNew, R
 use Rattle.exh_everyday.specs.declared.found.Found.{Found}
 use Rattle.exh_everyday.specs.Changes.{IsAnswerTo}
 use Rattle.exh_run.specs.Ends.{Ends, Silent, made_status}
+use Rattle.exh_transfer.specs.Compacts.{CompactEnds}
+use Rattle.exh_transfer.specs.Counts.{StatsEnds}
+use Rattle.exh_transfer.specs.Exports.{ExportEnds}
+use Rattle.exh_transfer.specs.Imports.{ImportEnds}
 use Rattle.exh_everyday.specs.Endings.{change_ended, copied_status, del_several_ended, get_ended, get_several_ended}
 
 -- the change that a put asks for
@@ -71,3 +75,7 @@ RunEnds form (actions.Put key value when) old new failed status = PutEnds form.i
 RunEnds form (actions.Del which) old new failed status = DelEnds form.is_hex which old new failed status
 RunEnds form (actions.Swap key was next) old new failed status = ChangeEnds form.is_hex (Swap key was next) old new failed status
 RunEnds form (actions.Backup path) old new failed status = (new ≡ old) × BackupEnds status
+RunEnds form (actions.Import words) old new failed status = ImportEnds words.is_atomic old new failed status
+RunEnds form (actions.Export format bare) old new failed status = ExportEnds format form.is_hex bare old new failed status
+RunEnds form (actions.Compact given) old new failed status = CompactEnds old new failed status
+RunEnds form (actions.Stats json) old new failed status = StatsEnds json old new failed status

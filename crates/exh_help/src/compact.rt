@@ -11,7 +11,7 @@ Words behind `--` are no options, as in compact -- --cap.
 
 Examples:
   exhash compact people.exh
-  exhash compact towns.exh --cap 16 --wards 0";
+  exhash compact people.exh --cap 16 --wards 0";
 
 /// What help says behind its options.
 pub const TEXT: &str = "\

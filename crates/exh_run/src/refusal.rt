@@ -101,6 +101,19 @@ pub fn tell_absent(rt: &(impl Eprint + AllocGlobal), path: &str, key: &Key) {
     }
 }
 
+/// Says that a key finds no room, as a word of a text of pairs has it.
+pub fn tell_full(rt: &(impl Eprint + AllocGlobal), path: &str, key: &Key) {
+    let path = Escaped(path);
+    match key_word(rt, key) {
+        Ok(word) => {
+            let _ = eprintln!(rt; "exhash: {path}: no room for key {word}");
+        }
+        Err(_) => {
+            let _ = eprintln!(rt; "exhash: {path}: no room for a key");
+        }
+    }
+}
+
 // The word of a key.
 fn key_word(rt: &impl AllocGlobal, key: &Key) -> Result<String, AllocError> {
     let mut word = Vec::new(rt.alloc());

@@ -1,0 +1,13 @@
+//! The everyday commands about all pairs of a page file: what each prints of what the library answers, what standard error
+//! says where it is refused, and the status with which the program ends.
+#![tactic(auto)]
+
+pub use compacting::compact;
+pub use exporting::export;
+pub use importing::import;
+pub use stats::stats;
+
+mod compacting;
+mod exporting;
+mod importing;
+mod stats;
