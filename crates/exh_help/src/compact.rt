@@ -20,8 +20,9 @@ that merges left and those that were split for keys that are gone. The settings
 are the file's own but for those that are named. The file is locked as by
 `exhash put`, so that no change of others is lost, and is there whole until the
 new one is whole and on the disk. The new one is another file, as `exhash
---help` says. Where a key would find no room under the new settings, standard error
-names each such key, and the file stays as it is. Else one line is printed,
+--help` says. Where a key would find no room under the new settings, standard
+error names each such key, and the file stays as it is. Else one line is
+printed,
   compacted N pages to M
 
 Exit status:

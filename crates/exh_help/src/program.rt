@@ -87,11 +87,12 @@ access lists, its extended attributes and its hard links; its group may do what
 the mode says.
 One run at a time saves to a file. put, del, swap, import and compact lock it
 from before they read it until it is saved, load, serve and convert to save it;
-a file that another process has locked isn't saved to, nor is one on a file system without
-locks. load and serve wait 5 seconds for the lock. Who may read a file may lock
-it, and so keep others from saving to it. Of two runs that opened one file the
-later to save is refused, so that nothing that was saved is lost. Programs that
-write without these locks are noticed only if they are done before the save.
+a file that another process has locked isn't saved to, nor is one on a file
+system without locks. load and serve wait 5 seconds for the lock. Who may read a
+file may lock it, and so keep others from saving to it. Of two runs that opened
+one file the later to save is refused, so that nothing that was saved is lost.
+Programs that write without these locks are noticed only if they are done before
+the save.
 Page files of the first version, of the second and of the third are read, and
 told alike. One of the third that was opened, and is saved at the same path, is
 saved as one of the third; what is saved otherwise is of the second, but for

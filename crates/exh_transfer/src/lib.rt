@@ -10,4 +10,5 @@ pub use stats::stats;
 mod compacting;
 mod exporting;
 mod importing;
+mod rejected;
 mod stats;

@@ -1,0 +1,5 @@
+-- how the commands about all pairs end, by what the library answers
+pub mod Compacts
+pub mod Counts
+pub mod Exports
+pub mod Imports
