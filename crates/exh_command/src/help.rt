@@ -5,9 +5,9 @@ ghost use Rattle.exh_command.specs.CommandFault.{IsWrong, TellsVersion};
 
 use crate::fault::CliFault;
 use crate::names::{
-    ATOMIC, BACKUP, BARE, CAP, CHECK, COMPACT, CONVERT, CREATE, CREATE_FLAG, DEL, DUMP, EXPORT, FORMAT,
-    FROM, GET, HELP, HEX, IMPORT, JSON, KEYER, KEYER_NAME, LOAD, MANUAL, NEW_FLAG, NUMBER, PAIRS,
-    PROGRAM, PUT, RAW, REPLACE, SERVE, STATS, STORM, SWAP, VERSION, WAIT, WARDS,
+    ATOMIC, BACKUP, BARE, CAP, CHECK, COMPACT, CONVERT, CREATE, CREATE_FLAG, DEL, DUMP, EXPORT,
+    FORMAT, FROM, GET, HELP, HEX, IMPORT, JSON, KEYER, KEYER_NAME, LOAD, MANUAL, NEW_FLAG, NUMBER,
+    PAIRS, PROGRAM, PUT, RAW, REPLACE, SERVE, STATS, STORM, SWAP, VERSION, WAIT, WARDS,
 };
 use crate::parser::{
     bare_command, bare_program, check, convert, dump, flag, load, manual, option, pairs, serve,
@@ -167,7 +167,7 @@ fn create<'a>(alloc: Global) -> Result<Command<'a>, AllocError> {
         exh_help::create::USAGE,
         exh_help::create::TEXT,
     );
-    with_new_settings(alloc, command?)?.arg(wait(alloc))
+    with_new_settings(alloc, command)?.arg(wait(alloc))
 }
 
 // A command with the options that name the settings of a new file.
@@ -304,7 +304,12 @@ fn compact<'a>(alloc: Global) -> Result<Command<'a>, AllocError> {
         NUMBER,
         "How many records a page may have, 1 to 16 [default: the file's]",
     ))?
-    .arg(option(alloc, WARDS, NUMBER, "0 to 4, for 2^N wards [default: the file's]"))?
+    .arg(option(
+        alloc,
+        WARDS,
+        NUMBER,
+        "0 to 4, for 2^N wards [default: the file's]",
+    ))?
     .arg(option(
         alloc,
         KEYER,

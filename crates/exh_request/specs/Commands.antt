@@ -7,7 +7,7 @@ use Rattle.exh_request.specs.declared.command_option.CommandOption.{CommandOptio
 use Rattle.exh_request.specs.declared.command_option.CommandOption.TheVariants as option
 
 -- the command that a word calls
-abbrev pub command_named : List ℕ → Option EverydayCommand
+unfoldable pub command_named : List ℕ → Option EverydayCommand
 command_named word =
     if bytes_eq word (codes "create") then Some Create
     else (if bytes_eq word (codes "backup") then Some Backup

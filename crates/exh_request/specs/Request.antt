@@ -192,7 +192,7 @@ request_at command options (path ∷ places) = do
   action ← action_asked command options places
   Ok (record { path = name; action = action; wait = options.wait; form = options.form })
 
-abbrev pub request_behind : EverydayCommand → List (List ℕ) → Result RequestText WrongCause
+unfoldable pub request_behind : EverydayCommand → List (List ℕ) → Result RequestText WrongCause
 request_behind command words = do
   line ← line_asked command words
   options ← options_asked line.uses

@@ -82,7 +82,7 @@ fn is_help(word: &[u8]) -> bool
 }
 
 // The request of a command by the words behind it.
-#[tactic(auto, using(crate::proofs::Causes::first_wrong, crate::proofs::Causes::wrong_behind, crate::proofs::Causes::then_is))]
+#[tactic(auto, using(crate::proofs::Causes::first_wrong, crate::proofs::Causes::wrong_behind, crate::proofs::Causes::then_is), unfolding(crate::specs::Request::request_behind))]
 fn request_by<'w>(
     alloc: Global,
     command: EverydayCommand,

@@ -40,6 +40,7 @@ impl EverydayCommand {
     }
 
     /// The command that a word calls, `None` where it calls no everyday one.
+    #[tactic(auto, unfolding(crate::specs::Commands::command_named))]
     pub(crate) fn named(word: &[u8]) -> Option<EverydayCommand>
         ensures { result ≡ command_named word.now }
     {
