@@ -3,8 +3,8 @@ ghost use Rattle.std.specs.Prelude.{◌≡◌, [], IsFalse};
 ghost use Rattle.exh_stream.specs.Output.{SameWriter, held, pending, writer_failed};
 ghost use Rattle.exh_run.specs.Ends.{EndsText};
 
-use crate::refusal::tell_unprinted;
 use crate::Run;
+use crate::refusal::tell_unprinted;
 use exh_answer::{Status, tell_line};
 use exh_stream::Output;
 use std::alloc::AllocError;

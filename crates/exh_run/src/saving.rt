@@ -1,7 +1,7 @@
 //! The end of a change in a store.
 
-use crate::refusal::tell_refused;
 use crate::Run;
+use crate::refusal::tell_refused;
 use exhash::{Store, StoreError};
 
 /// Commits a store and lets its file go. Where only the folder isn't synchronized the change is saved, and standard error says
