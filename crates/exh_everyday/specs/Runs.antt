@@ -20,7 +20,7 @@ use Rattle.exh_everyday.specs.declared.found.Found.{Found}
 use Rattle.exh_everyday.specs.Changes.{IsAnswerTo}
 use Rattle.exh_run.specs.Ends.{Ends, Silent, made_status}
 use Rattle.exh_transfer.specs.Compacts.{CompactEnds}
-use Rattle.exh_transfer.specs.Counts.{StatsEnds}
+use Rattle.exh_transfer.specs.Counts.{StatsEnd}
 use Rattle.exh_transfer.specs.Exports.{ExportEnds}
 use Rattle.exh_transfer.specs.Imports.{ImportEnds}
 use Rattle.exh_everyday.specs.Endings.{change_ended, copied_status, del_several_ended, get_ended, get_several_ended}
@@ -78,4 +78,4 @@ RunEnds form (actions.Backup path) old new failed status = (new ≡ old) × Back
 RunEnds form (actions.Import words) old new failed status = ImportEnds old new failed status
 RunEnds form (actions.Export format bare) old new failed status = ExportEnds format form.is_hex bare old new failed status
 RunEnds form (actions.Compact given) old new failed status = CompactEnds old new failed status
-RunEnds form (actions.Stats json) old new failed status = StatsEnds json old new failed status
+RunEnds form (actions.Stats json) old new failed status = StatsEnd old new failed status

@@ -26,7 +26,7 @@ pub fn export<W: Write>(
     ensures ends { ExportEnds format run.now.form.is_hex is_bare (held W.contents output.old) (held W.contents output.new) (writer_failed output.new) result }
 {
     let pairs = pairs_at(run);
-    end_export(run, format, is_bare, &pairs, output)
+    end_export(run, format, is_bare, pairs, output)
 }
 
 // The pairs of one state of the file.
@@ -39,17 +39,17 @@ fn end_export<W: Write>(
     run: &Run<'_>,
     format: PairFormat,
     is_bare: bool,
-    pairs: &Result<Pairs, StoreError>,
+    pairs: Result<Pairs, StoreError>,
     output: &mut Output<'_, W>,
 ) -> Status
     requires open { IsFalse (writer_failed output.old) }
     requires empty { pending output.old ≡ [] }
     ensures same_writer { SameWriter output.old output.new }
-    ensures ends { Ends (export_ended format run.now.form.is_hex is_bare pairs.now) (held W.contents output.old) (held W.contents output.new) (writer_failed output.new) result }
+    ensures ends { Ends (export_ended format run.now.form.is_hex is_bare pairs) (held W.contents output.old) (held W.contents output.new) (writer_failed output.new) result }
 {
     match pairs {
-        Ok(pairs) => tell_pairs(run, format, is_bare, pairs, output),
-        Err(fault) => refuse_reading(run, *fault),
+        Ok(pairs) => tell_pairs(run, format, is_bare, &pairs, output),
+        Err(fault) => refuse_reading(run, fault),
     }
 }
 

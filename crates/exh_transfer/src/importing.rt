@@ -52,7 +52,7 @@ fn imported(run: &Run<'_>, words: &ImportWords, reason: &Reason) -> Result<Impor
     };
     let mut reader = ReasonReader::new(run.rt.reader(), reason);
     let mut rejected = Rejected { run };
-    exh_import::import(run.rt.alloc(), &mut reader, &mut store, &options, &mut rejected)
+    exh_import::import(run.rt.alloc(), &mut reader, &mut store, options, &mut rejected)
 }
 
 // The store of the file, which is made where nothing is, if settings are given.
