@@ -4,7 +4,7 @@ ghost use Rattle.exh_file.specs.Opened.{AreWardsOf, settings_in};
 ghost use Rattle.exh_map.specs.FileMap.{KeepsMap};
 
 use crate::drafting::drafted;
-use crate::new_file::{save_draft, synchronized};
+use crate::new_file::{draft_anew, save_draft, synchronized};
 use crate::reading::read_whole;
 use exh_backup::opened_at;
 use exh_calls::Call;
@@ -31,7 +31,7 @@ const FEW_CALLS: usize = 16;
 
 /// The page file of a path, which is locked.
 #[derive(Drop)]
-pub(crate) struct HeldFile {
+pub struct HeldFile {
     path: String,
     seen: OpenedFile,
     // Its lock, where it came of a save of its own.
@@ -47,7 +47,7 @@ impl HeldFile {
     ///
     /// `Absent`: nothing is there. `Busy`: another process has the lock. `Changed`: other files come to the path. Others: it
     /// isn't opened or read, as the error says.
-    pub(crate) fn open(
+    pub fn open(
         rt: &HostRuntime,
         path: &str,
         seconds: u64,
@@ -112,6 +112,20 @@ impl HeldFile {
             Some(calls) => self.answer(rt, calls),
             None => self.save_all(rt, map),
         }
+    }
+
+    /// Replaces the file by a new one of version 3, of these wards, and lets it go.
+    ///
+    /// `Vanished`: it is no longer at its path. `AboveLimit`: the new one would be longer than the system lets it be.
+    /// `Unsynchronized`: it is saved, but a power failure may take it back. Others: nothing was saved, as they say.
+    pub fn replace(self, rt: &HostRuntime, wards: Opened<FileStore>) -> Result<(), StoreError> {
+        self.see_there(rt)?;
+        if let Some(above) = above_limit(rt, &self.path, &wards.header(), true) {
+            return Err(StoreError::AboveLimit(above));
+        }
+        let draft = draft_anew(rt, wards)?;
+        let saved = save_draft(rt, &self.path, Some(&self.seen), draft)?;
+        synchronized(saved.folder)
     }
 
     // Makes calls in the file, which is of version 3.

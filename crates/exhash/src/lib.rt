@@ -9,7 +9,9 @@ pub use exh_backup::{BackupFault, backup};
 pub use exh_keyer::AnyKeyer as Keyer;
 pub use exh_map::{FileMap, Pairs, Put, PutNew, Settings, StoreError, Swap, USUAL};
 pub use exh_page::{KEY_LIMIT, Key, VALUE_LIMIT, Value};
+pub use held_file::HeldFile;
 pub use new_file::make;
+pub use reading::{read_still, read_whole};
 pub use store::Store;
 
 mod calls_commit;

@@ -38,11 +38,21 @@ fn empty_draft(rt: &HostRuntime, settings: Settings) -> Result<Draft<FileStore>,
     let Ok(opened) = Opened::from_wards(settings, wards) else {
         return Err(StoreError::Settings);
     };
+    draft_anew(rt, opened)
+}
+
+/// The draft of a new file of version 3 of wards, with stamps of its own.
+///
+/// `Memory`: a growth was refused. `OutOfReach`: a page is out of reach. `Io`: the system gives no stamp.
+pub(crate) fn draft_anew(
+    rt: &HostRuntime,
+    wards: Opened<FileStore>,
+) -> Result<Draft<FileStore>, StoreError> {
     let stamps = Stamps {
         own: draw_stamp(rt)?,
         before: draw_stamp(rt)?,
     };
-    Ok(Draft::anew(rt.alloc(), opened, stamps)?)
+    Ok(Draft::anew(rt.alloc(), wards, stamps)?)
 }
 
 // An empty file at a path, which of several processes one alone replaces.

@@ -15,10 +15,7 @@ use std::fs::File;
 /// The wards of an open file, and how it has its pages in places.
 ///
 /// Errors: it isn't read, as they say.
-pub(crate) fn read_whole(
-    alloc: Global,
-    file: &File,
-) -> Result<(Opened<FileStore>, FileForm), StoreError> {
+pub fn read_whole(alloc: Global, file: &File) -> Result<(Opened<FileStore>, FileForm), StoreError> {
     let reason = Cell::new(None);
     match open_form(alloc, &mut ReasonReader::new(file, &reason)) {
         Ok(found) => Ok(found),
@@ -50,30 +47,35 @@ impl Reading for WholeReading {
     }
 }
 
-/// The wards of one state of the file of a path. Writers are kept from it while it is read, unless one has its lock: then it
-/// is read beside, again and again, for so many seconds.
+/// The wards of one state of the file of a path, as `read_still` reads it.
 ///
 /// Errors: it isn't opened or read, as they say.
-pub(crate) fn read_still(
+pub(crate) fn read_opened(
     rt: &HostRuntime,
     path: &str,
     seconds: u64,
 ) -> Result<Opened<FileStore>, StoreError> {
-    let file = opened_at(rt, path)?;
-    let (opened, _form) = match hold_still(rt, path, &file, 0) {
-        Ok(_) => read_whole(rt.alloc(), &file)?,
-        Err(Refused::Unfit(InPlaceFault::Busy)) => read_beside(rt, path, seconds)?,
-        Err(refused) => return Err(StoreError::from(refused)),
-    };
+    let mut reading = WholeReading { alloc: rt.alloc() };
+    let found = read_still(rt, path, &mut reading, seconds)?;
+    let (opened, _form) = found?;
     Ok(opened)
 }
 
-// Reads one state of a file whose lock another process has.
-fn read_beside(
+/// What a reading finds in one state of the file of a path. Writers are kept from it while it is read, unless one has its
+/// lock: then it is read beside, again and again, for so many seconds.
+///
+/// `Absent`: nothing is there, or an empty file. `Changed`: it was being changed all the while. Others: it isn't opened, as
+/// they say.
+pub fn read_still<R: Reading>(
     rt: &HostRuntime,
     path: &str,
+    reading: &mut R,
     seconds: u64,
-) -> Result<(Opened<FileStore>, FileForm), StoreError> {
-    let mut reading = WholeReading { alloc: rt.alloc() };
-    read_one_state(rt, path, &mut reading, seconds)?
+) -> Result<R::Found, StoreError> {
+    let file = opened_at(rt, path)?;
+    match hold_still(rt, path, &file, 0) {
+        Ok(_) => Ok(reading.read(&file)),
+        Err(Refused::Unfit(InPlaceFault::Busy)) => Ok(read_one_state(rt, path, reading, seconds)?),
+        Err(refused) => Err(StoreError::from(refused)),
+    }
 }

@@ -14,7 +14,7 @@ ghost use Rattle.exhash.specs.Store.{IsHeld, IsNew, IsReadOnly};
 
 use crate::held_file::HeldFile;
 use crate::new_file::make;
-use crate::reading::read_still;
+use crate::reading::read_opened;
 use exh_frames::FileStore;
 use exh_map::{FileMap, Pairs, Put, PutNew, Settings, StoreError, Swap, key_of, value_of};
 use exh_page::Value;
@@ -138,7 +138,7 @@ impl<'r> Store<'r> {
     ) -> Result<Store<'r>, StoreError>
         ensures read { IfOk result (λ store. IsReadOnly store.file) }
     {
-        let opened = read_still(rt, path, seconds)?;
+        let opened = read_opened(rt, path, seconds)?;
         Ok(Store {
             rt,
             map: FileMap::new(opened),
