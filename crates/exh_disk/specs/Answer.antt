@@ -1,5 +1,5 @@
 -- What a disk answers to a save that asks.
-use Rattle.std.specs.Prelude.{◌≡◌, ◌≢◌, ◌⊎◌, ℕ, Bool, true, false, List}
+use Rattle.std.specs.Prelude.{◌≡◌, ◌≢◌, ◌⊎◌, ℕ, Bool, true, false, List, Option}
 use Rattle.std.specs.IoError.{error_kind}
 use Rattle.std.specs.declared.io.Error.{Error}
 use Rattle.std.specs.declared.io.ErrorKind.{ErrorKind}
@@ -11,13 +11,21 @@ use Rattle.exh_disk.specs.declared.fault.DiskFault.{DiskFault}
 use Rattle.exh_disk.specs.declared.fault.DiskFault.TheVariants.{Busy}
 use Rattle.exh_disk.specs.declared.found.Found.{Found}
 use Rattle.exh_disk.specs.declared.found.Head.{Head}
+use Rattle.exh_disk.specs.declared.found.Runner.{Runner}
 
--- a path leads to this; this has a name, itself a link where it is one, or nothing has it; a file begins so; a call failed so
+-- A path leads to this; this has a name, itself a link where it is one, or nothing has it; a file begins so; another file
+-- than the one that is asked about has a name, or it changed; what a path leads to is a regular file; for whom the program
+-- runs; a file was given this owner and group, or these permissions; a call failed so.
 pub data Answer : Type 0 where
   Leads : List ℕ → Found → Answer
   Named : List ℕ → Found → Answer
   Unnamed : List ℕ → Answer
   Begins : List ℕ → Head → Answer
+  Strange : List ℕ → Answer
+  IsRegular : List ℕ → Answer
+  Runs : Runner → Answer
+  Gives : Option ℕ → Option ℕ → Answer
+  Permits : ℕ → Answer
   Fails : Error → Answer
 
 -- a call failed, and so it is told

@@ -1,4 +1,5 @@
 pub mod Answer
+pub mod CallText
 pub mod DiskFault
 pub mod Folder
 pub mod Found

@@ -1,6 +1,7 @@
 -- What a save may replace, by a file that was opened before.
 use Rattle.std.specs.Prelude.{◌≡◌, ◌≢◌, ◌⊎◌, ℕ, Bool, true, IfErr, IfOk, IfSome, IsOkAnd, IsSomeAnd, List, MatchResult, Option, string_bytes}
-use Rattle.exh_disk.specs.Answer.{Answer, Fails, IsHoldTold, IsTold}
+use Rattle.std.specs.declared.io.Error.{Error}
+use Rattle.exh_disk.specs.Answer.{Answer, Fails, IsHoldTold, IsTold, LeadsElsewhere, Strange}
 use Rattle.exh_disk.specs.DiskFault.{told}
 use Rattle.exh_disk.specs.Found.{IsSame, IsUnchanged}
 use Rattle.exh_disk.specs.declared.fault.Call.TheVariants.{Ask}
@@ -40,11 +41,22 @@ pub record MayReplace {O : Type 0} (finds : O → Found → Type 0) (seen : Seen
 abbrev pub IsKept : {O : Type 0} → Seen O → DiskFault → Type 0
 IsKept seen fault = MatchResult seen.about (λ _. fault ≡ NotAsOpened) (λ error. fault ≡ told Ask error)
 
--- What taking a lock came to: it is had while the file stands at its path without links; or the file is no regular one.
-abbrev pub IsLocked : {O H : Type 0} → (H → List ℕ → Bool) → Seen O → Lock H → Type 0
-IsLocked stands seen (Taken held) = IsOkAnd seen.about (λ about. (about.found.kind ≡ Regular) × (stands held (string_bytes about.path) ≡ true))
-IsLocked stands seen Needless = IsOkAnd seen.about (λ about. about.found.kind ≢ Regular)
-IsLocked stands seen Gone = IsOkAnd seen.about (λ about. about.found.kind ≡ Regular)
+-- What is to be saved to may be an opened file of which the disk didn't say what it was: it is named so; or the file was
+-- asked about again, which failed, or found to be what is there.
+abbrev pub MayBeSeen : {O : Type 0} → (Answer → Type 0) → (O → Found → Type 0) → Seen O → List ℕ → Option Found → Type 0
+MayBeSeen answers finds seen named there = (string_bytes seen.named ≡ named)
+    ⊎ IsSomeAnd there (λ there. ((error : Error) × answers (Fails error)) ⊎ ((found : Found) × finds seen.opened found × IsSame found there))
+
+-- Where a file was opened it is no longer, as it was: its path leads elsewhere, or what is there is another file or changed.
+abbrev pub IsGone : (List ℕ → List ℕ → Type 0) → (Answer → Type 0) → List ℕ → List ℕ → Type 0
+IsGone leads answers named path = LeadsElsewhere leads answers named path ⊎ answers (Strange path)
+
+-- What taking a lock came to: it is had while the file stands at its path without links; or the file is no regular one, or
+-- no longer there as it was.
+abbrev pub IsLocked : {O H : Type 0} → (List ℕ → List ℕ → Type 0) → (Answer → Type 0) → (H → List ℕ → Bool) → Seen O → Lock H → Type 0
+IsLocked leads answers stands seen (Taken held) = IsOkAnd seen.about (λ about. (about.found.kind ≡ Regular) × (stands held (string_bytes about.path) ≡ true))
+IsLocked leads answers stands seen Needless = IsOkAnd seen.about (λ about. about.found.kind ≢ Regular)
+IsLocked leads answers stands seen Gone = IsOkAnd seen.about (λ about. (about.found.kind ≡ Regular) × IsGone leads answers (string_bytes seen.named) (string_bytes about.path))
 
 -- why it wasn't taken: the system said not what the file was, or a call failed
 abbrev pub IsUnlocked : {O : Type 0} → (Answer → Type 0) → Seen O → DiskFault → Type 0

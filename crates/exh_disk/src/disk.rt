@@ -1,9 +1,9 @@
 //! The calls that a save makes of the system.
-ghost use Rattle.std.specs.Prelude.{◌≡◌, ◌≢◌, ℕ, Bool, IfErr, IfOk, List, OnErr, OnOk, Option, false, string_bytes, true};
+ghost use Rattle.std.specs.Prelude.{◌≡◌, ◌≢◌, ℕ, Bool, IfErr, IfNone, IfOk, List, OnErr, OnOk, Option, false, string_bytes, true};
 ghost use Rattle.std.specs.IoError.{error_kind};
 ghost use Rattle.std.specs.declared.io.ErrorKind.TheVariants.{NotFound};
 ghost use Rattle.exh_disk.specs.declared.found.Found.{Found};
-ghost use Rattle.exh_disk.specs.Answer.{Answer, Begins, Fails, Leads, Named, Unnamed};
+ghost use Rattle.exh_disk.specs.Answer.{Answer, Begins, Fails, Gives, IsRegular, Leads, Named, Permits, Runs, Strange, Unnamed};
 ghost use Rattle.exh_disk.specs.declared.stage.Stage.{Stage};
 ghost use Rattle.exh_disk.specs.declared.stage.Stage.TheVariants.{Confirmed, Dressed, Empty, Left, Linked, Made, OwnLeft, Placed, Restricted, Settled, Synchronized, Unlinkable, Written};
 ghost use Rattle.exh_disk.specs.History.{History, SameBut, kept, placed, placed_if};
@@ -57,7 +57,9 @@ pub trait Disk {
 
     /// For whom the program runs.
     fn runner(&mut self) -> io::Result<Runner>
-        ensures { history self.new ≡ history self.old };
+        ensures runner { IfOk result (λ runner. answers (Runs runner)) }
+        ensures fails { IfErr result (λ error. answers (Fails error)) }
+        ensures crash { history self.new ≡ history self.old };
 
     /// The path of what a path leads to, without links.
     fn whole_path(&mut self, alloc: Global, path: &str) -> io::Result<String>
@@ -104,43 +106,53 @@ pub trait Disk {
     /// Whether a locked file has the name of a path, as it was.
     fn confirm_old(&mut self, held: &mut Self::Held, path: &str, was: &Found) -> io::Result<bool>
         ensures stands { IfOk result (λ is_there. stands held.new path.now ≡ is_there) }
+        ensures gone { IfOk result (λ is_there. is_there ≡ false → answers (Strange path.now)) }
         ensures fails { IfErr result (λ error. answers (Fails error)) }
         ensures crash { history self.new ≡ history self.old };
 
     /// Takes away a name beside a path that is another one of the locked file at the path.
     fn unname_old(&mut self, held: &Self::Held, name: &str, path: &str) -> io::Result<()>
         requires { name.now ≢ path.now }
-        ensures { SameBut name.now (history self.old) (history self.new) };
+        ensures fails { IfErr result (λ error. answers (Fails error)) }
+        ensures crash { SameBut name.now (history self.old) (history self.new) };
 
     /// Opens what is no regular file, to write to it as it stands; `None` where a regular file is there by now.
     fn open(&mut self, path: &str) -> io::Result<Option<Self::Device>>
-        ensures { history self.new ≡ history self.old };
+        ensures regular { IfOk result (λ device. IfNone device (answers (IsRegular path.now))) }
+        ensures fails { IfErr result (λ error. answers (Fails error)) }
+        ensures crash { history self.new ≡ history self.old };
 
     /// Waits until what was written to a device is there.
     fn synchronize_device(&mut self, device: &mut Self::Device) -> io::Result<()>
-        ensures { history self.new ≡ history self.old };
+        ensures fails { IfErr result (λ error. answers (Fails error)) }
+        ensures crash { history self.new ≡ history self.old };
 
     /// Makes a file where nothing has the name, with these permissions or the part of them that is usual.
     fn make(&mut self, name: &str, mode: u32) -> io::Result<Self::File>
         ensures stage { IfOk result (λ file. stage file ≡ Made) }
+        ensures fails { IfErr result (λ error. answers (Fails error)) }
         ensures crash { SameBut name.now (history self.old) (history self.new) };
 
     /// Opens the file of a name beside a path as it stands.
     fn take(&mut self, name: &str, path: &str) -> io::Result<Self::File>
         requires { name.now ≢ path.now }
         ensures stage { IfOk result (λ file. stage file ≡ Left) }
+        ensures fails { IfErr result (λ error. answers (Fails error)) }
         ensures crash { SameBut name.now (history self.old) (history self.new) };
 
     /// Takes the lock of a file, which one save has at a time.
     fn lock(&mut self, file: &mut Self::File) -> io::Result<()>
         ensures ok { OnOk result (stage file.new ≡ locked (stage file.old)) }
         ensures err { OnErr result (stage file.new ≡ stage file.old) }
+        ensures fails { IfErr result (λ error. answers (Fails error)) }
         ensures crash { history self.new ≡ history self.old };
 
     /// Whether a file is the one of this name, and has no other.
     fn confirm(&mut self, file: &mut Self::File, name: &str) -> io::Result<bool>
         ensures ok { IfOk result (λ is_own. stage file.new ≡ asked (stage file.old) is_own) }
+        ensures other { IfOk result (λ is_own. is_own ≡ false → answers (Strange name.now)) }
         ensures err { OnErr result (stage file.new ≡ stage file.old) }
+        ensures fails { IfErr result (λ error. answers (Fails error)) }
         ensures bytes { holds file.new ≡ holds file.old }
         ensures crash { history self.new ≡ history self.old };
 
@@ -149,6 +161,7 @@ pub trait Disk {
         requires { stage file.old ≡ OwnLeft }
         ensures ok { OnOk result (stage file.new ≡ Restricted) }
         ensures err { OnErr result (stage file.new ≡ stage file.old) }
+        ensures fails { IfErr result (λ error. answers (Fails error)) }
         ensures crash { history self.new ≡ history self.old };
 
     /// Takes away what a file has.
@@ -156,6 +169,7 @@ pub trait Disk {
         requires { is_emptiable (stage file.old) ≡ true }
         ensures ok { OnOk result (stage file.new ≡ Empty) }
         ensures err { OnErr result (stage file.new ≡ stage file.old) }
+        ensures fails { IfErr result (λ error. answers (Fails error)) }
         ensures bytes { OnOk result (holds file.new ≡ unwritten) }
         ensures crash { history self.new ≡ history self.old };
 
@@ -167,7 +181,9 @@ pub trait Disk {
         group: Option<u32>,
     ) -> io::Result<()>
         requires { stage file.old ≡ Empty }
+        ensures given { OnOk result (answers (Gives owner group)) }
         ensures stage { stage file.new ≡ stage file.old }
+        ensures fails { IfErr result (λ error. answers (Fails error)) }
         ensures bytes { holds file.new ≡ holds file.old }
         ensures crash { history self.new ≡ history self.old };
 
@@ -175,7 +191,9 @@ pub trait Disk {
     fn permit(&mut self, file: &mut Self::File, mode: u32) -> io::Result<()>
         requires { stage file.old ≡ Empty }
         ensures ok { OnOk result (stage file.new ≡ Dressed) }
+        ensures permitted { OnOk result (answers (Permits mode)) }
         ensures err { OnErr result (stage file.new ≡ stage file.old) }
+        ensures fails { IfErr result (λ error. answers (Fails error)) }
         ensures bytes { holds file.new ≡ holds file.old }
         ensures crash { history self.new ≡ history self.old };
 
@@ -196,6 +214,7 @@ pub trait Disk {
         requires { is_fillable (stage file.old) ≡ true }
         ensures ok { OnOk result (stage file.new ≡ Synchronized) }
         ensures err { OnErr result (stage file.new ≡ stage file.old) }
+        ensures fails { IfErr result (λ error. answers (Fails error)) }
         ensures bytes { holds file.new ≡ holds file.old }
         ensures crash { history self.new ≡ history self.old };
 
@@ -212,6 +231,7 @@ pub trait Disk {
         requires held { stands held.now path.now ≡ true }
         ensures ok { OnOk result (stage file.new ≡ Placed) }
         ensures err { OnErr result (stage file.new ≡ stage file.old) }
+        ensures fails { IfErr result (λ error. answers (Fails error)) }
         ensures bytes { holds file.new ≡ holds file.old }
         ensures placed { OnOk result (history self.new path.now ≡ placed (history self.old path.now) (holds file.old)) }
         ensures crash { OnErr result (history self.new path.now ≡ history self.old path.now) };
@@ -222,6 +242,7 @@ pub trait Disk {
         requires beside { name.now ≢ path.now }
         ensures ok { IfOk result (λ is_linked. stage file.new ≡ linked is_linked) }
         ensures err { OnErr result (stage file.new ≡ stage file.old) }
+        ensures fails { IfErr result (λ error. answers (Fails error)) }
         ensures bytes { holds file.new ≡ holds file.old }
         ensures placed { IfOk result (λ is_linked. history self.new path.now ≡ placed_if is_linked (history self.old path.now) (holds file.old)) }
         ensures crash { OnErr result (history self.new path.now ≡ history self.old path.now) };
@@ -230,6 +251,7 @@ pub trait Disk {
     fn unname(&mut self, file: &mut Self::File, name: &str) -> io::Result<()>
         requires { stage file.old ≡ Linked }
         ensures stage { stage file.new ≡ Placed }
+        ensures fails { IfErr result (λ error. answers (Fails error)) }
         ensures bytes { holds file.new ≡ holds file.old }
         ensures crash { SameBut name.now (history self.old) (history self.new) };
 
@@ -239,6 +261,7 @@ pub trait Disk {
         requires beside { name.now ≢ path.now }
         ensures ok { OnOk result (stage file.new ≡ Placed) }
         ensures err { OnErr result (stage file.new ≡ stage file.old) }
+        ensures fails { IfErr result (λ error. answers (Fails error)) }
         ensures bytes { holds file.new ≡ holds file.old }
         ensures placed { OnOk result (history self.new path.now ≡ placed (history self.old path.now) (holds file.old)) }
         ensures crash { OnErr result (history self.new path.now ≡ history self.old path.now) };
@@ -247,6 +270,7 @@ pub trait Disk {
     fn synchronize_folder(&mut self, file: &mut Self::File, path: &str) -> io::Result<()>
         requires { stage file.old ≡ Placed }
         ensures stage { stage file.new ≡ Settled }
+        ensures fails { IfErr result (λ error. answers (Fails error)) }
         ensures bytes { holds file.new ≡ holds file.old }
         ensures kept { OnOk result (history self.new path.now ≡ kept (history self.old path.now)) }
         ensures crash { OnErr result (history self.new path.now ≡ history self.old path.now) };
@@ -254,5 +278,6 @@ pub trait Disk {
     /// Takes away the name of a file that this save made or has the lock of.
     fn remove(&mut self, file: &Self::File, name: &str) -> io::Result<()>
         requires { is_ours (stage file.now) ≡ true }
-        ensures { SameBut name.now (history self.old) (history self.new) };
+        ensures fails { IfErr result (λ error. answers (Fails error)) }
+        ensures crash { SameBut name.now (history self.old) (history self.new) };
 }

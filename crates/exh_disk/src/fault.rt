@@ -1,4 +1,6 @@
 //! Why a path can't be saved to.
+ghost use Rattle.std.specs.Prelude.{Some};
+ghost use Rattle.exh_disk.specs.CallText.{call_text};
 
 use std::io::ErrorKind;
 use std::{fmt, io};
@@ -21,6 +23,8 @@ pub enum Call {
 }
 
 impl fmt::Display for Call {
+    ghost output = { λ call. Some (call_text call) };
+
     fn fmt<W: fmt::Write>(&self, f: &mut fmt::Formatter<W>) -> fmt::Result {
         f.write_str(match self {
             Call::Ask => "asking what is there",

@@ -5,7 +5,7 @@ ghost use Rattle.std.specs.declared.io.ErrorKind.TheVariants.{OutOfMemory};
 ghost use Rattle.exh_disk.specs.Answer.{Fails};
 ghost use Rattle.exh_disk.specs.Found.{IsSame, IsUnchanged};
 ghost use Rattle.exh_disk.specs.declared.fault.DiskFault.TheVariants.{NotAsOpened};
-ghost use Rattle.exh_disk.specs.Seen.{IsAt, IsKept, IsLocked, IsSeenAt, IsUnlocked, MayReplace};
+ghost use Rattle.exh_disk.specs.Seen.{IsAt, IsKept, IsLocked, IsSeenAt, IsUnlocked, MayBeSeen, MayReplace};
 
 use crate::{Call, Disk, DiskFault, Found, Kind, Lock, hold, leads_to};
 use std::alloc::Global;
@@ -71,7 +71,7 @@ impl<O: Drop> Seen<O> {
         alloc: Global,
         disk: &mut D,
     ) -> Result<Lock<D::Held>, DiskFault>
-        ensures ok { IfOk result (IsLocked D.stands self.now) }
+        ensures ok { IfOk result (IsLocked D.leads D.answers D.stands self.now) }
         ensures err { IfErr result (IsUnlocked D.answers self.now) }
         ensures crash { D.history disk.new ≡ D.history disk.old }
     {
@@ -117,6 +117,7 @@ impl<O: Drop> Seen<O> {
         ensures ok { OnOk result (MayReplace D.finds self.now named.now path.now (option_copied there.entry)) }
         ensures may { IsOk self.now.about → MayReplace D.finds self.now named.now path.now (option_copied there.entry) → IsOk result }
         ensures err { IfErr result (IsKept self.now) }
+        ensures unasked { IfErr self.now.about (λ _. OnErr result (MayBeSeen D.answers D.finds self.now named.now (option_copied there.entry))) }
         ensures crash { D.history disk.new ≡ D.history disk.old }
     {
         let is_named = self.named.as_str() == named;
