@@ -17,9 +17,9 @@ Examples:
 /// What help says behind its options.
 pub const TEXT: &str = "\
 It puts the pairs of standard input into the file, one a line; a key that is
-there gets the new value. The text may have any length; the file is changed
-every 4096 pairs, and others may change it in between. With --atomic all pairs
-are put in at once, or, where a line is wrong or a key finds no room, none.
+there gets the new value. The text may have any length; the file is locked until
+its end, and saved every 65536 pairs. With --atomic all pairs are put in at
+once, or, where a line is wrong or a key finds no room, none.
 A line of the format `words` is
   KEY VALUE
 with both as `exhash pairs` prints them; of the format `tsv` both stand as they
