@@ -1,1 +1,8 @@
+-- formats, how their bytes are spelled, the lines that are written, and what lines read as
 pub mod Formats
+pub mod Bytes
+pub mod Lines
+pub mod Reading
+pub mod Spelled
+pub mod Reads
+pub mod Laws

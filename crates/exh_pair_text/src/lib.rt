@@ -1,6 +1,22 @@
-//! Stub.
+//! Pairs as lines of text: how a pair is written, and what a line reads as. What is written of a pair reads as that pair.
 #![tactic(auto)]
 
+pub use field::Field;
+pub use laws::{no_newline_is_in_pairs, pairs_are_read};
+pub use line::Line;
 pub use pair_format::PairFormat;
+pub use reading::line_of;
+pub use writing::{push_end, push_opening, push_pair};
+pub use wrong_line::WrongLine;
 
+mod byte_text;
+mod field;
+mod laws;
+mod line;
 mod pair_format;
+mod reading;
+mod spelled;
+#[cfg(test)]
+mod tests;
+mod writing;
+mod wrong_line;

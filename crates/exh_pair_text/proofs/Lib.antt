@@ -1,0 +1,7 @@
+-- of bytes that are read one behind the other
+pub mod Steps
+pub mod Cases
+-- of what is written, which is read again
+pub mod Again
+pub mod Cuts
+pub mod Marks

@@ -1,0 +1,185 @@
+-- The line of a pair is neither the first nor the last of an export, and reads as the pair.
+use Rattle.std.proofs.Common.{◌≡◌, ◌≢◌, ℕ, ◌+◌, ◌-◌, ◌^◌, ◌<◌, ◌≤◌, List, [], ◌∷◌, ◌++◌, length, drop, ◌⊎◌, Bool, true, false, Option, Some, None, Ok, Decides, inl, inr, refl, sym, ap, ◌∙◌, decimal, length-append, arith}
+use Rattle.std.specs.Prelude.{All, codes, is_some, unwrap_or, nat_eq}
+use Rattle.std.specs.List.{AllByRecursion, starts_with}
+use Rattle.std.specs.Option.{option_and_then}
+use Rattle.std.specs.Str.{bytes_eq}
+use Rattle.std.specs.Str.Parse.{digits_value}
+use Rattle.std.proofs.lemmas.Bool.{false≢true}
+use Rattle.std.proofs.lemmas.Bool.Decides.{Decides-eqb, nat_tests}
+use Rattle.std.proofs.lemmas.List.Elements.{All-append, All-cons, All-from_recursion, recursion_from_All}
+use Rattle.std.proofs.lemmas.Option.{cond_some}
+use Rattle.std.proofs.lemmas.Slice.Eq.{bytes_eq-Decides, starts_is}
+use Rattle.hex.specs.Hex.{lower_digits}
+use Rattle.hex.proofs.HexLemmas.{length-encode_with}
+use Rattle.exh_text.specs.ByteWord.{bytes_of_word}
+use Rattle.exh_text.specs.Numbers.{after_prefix, index_spelled, number_up_to}
+use Rattle.exh_text.specs.TextLemmas.{decimal_graphic, number_alone, printed_again}
+use Rattle.exh_text.specs.TextLines.{newline}
+use Rattle.exh_pair_text.specs.declared.field.Field.TheVariants as field
+use Rattle.exh_pair_text.specs.declared.line.Line.TheVariants.{Pair}
+use Rattle.exh_pair_text.specs.declared.pair_format.PairFormat.{PairFormat}
+use Rattle.exh_pair_text.specs.declared.pair_format.PairFormat.TheVariants.{Words, Tsv}
+use Rattle.exh_pair_text.specs.Formats.{format_named, separator, tab}
+use Rattle.exh_pair_text.specs.Laws.{AreBytes, IsPair, PairsAreOneLine, PairsAreRead}
+use Rattle.exh_pair_text.specs.Lines.{end_words, field_text, opening_words, pair_words}
+use Rattle.exh_pair_text.specs.Reading.{cut_at, end_in, line_read, opening_in, pair_in}
+use Rattle.exh_pair_text.proofs.Again.{field_again, field_other, graphic_other}
+use Rattle.exh_pair_text.proofs.Cases.{key_kept, value_kept}
+use Rattle.exh_pair_text.proofs.Cuts.{cut_behind, cut_nowhere}
+
+-- ---- optional values
+
+none_from : {A : Type 0} (found : Option A) → ((x : A) → found ≡ Some x → ⊥) → found ≡ None
+none_from None never = refl
+none_from (Some x) never = absurd (never x refl)
+
+some_behind : {A B : Type 0} (f : A → Option B) (found : Option A) (y : B) → option_and_then f found ≡ Some y → (x : A) × (found ≡ Some x) × (f x ≡ Some y)
+some_behind f None y is = cc
+some_behind f (Some x) y is = (x, refl, is)
+
+-- what a word begins with
+prefixed : (prefix word rest : List ℕ) → after_prefix prefix word ≡ Some rest → word ≡ prefix ++ rest
+prefixed prefix word rest found =
+    let is = cond_some _ _ _ found in
+    (starts_is Decides-eqb word prefix (starts_with nat_eq word prefix) refl).0 is.0 ∙ ap (λ (end : List ℕ). prefix ++ end) is.1
+
+-- ---- the cut of a pair's line
+
+key_other : (format : PairFormat) (hex : Bool) (key : List ℕ) → AllByRecursion (λ byte. byte < 256) key → AllByRecursion (λ byte. byte ≢ separator format) (field_text format hex key)
+key_other Words hex key all = field_other Words hex 32 key (omega arith) all
+key_other Tsv hex key all = field_other Tsv hex tab key (omega arith) all
+
+pair_cut : (format : PairFormat) (hex : Bool) (key value : List ℕ) → AllByRecursion (λ byte. byte < 256) key → cut_at (separator format) (pair_words format hex key value) ≡ Some (field_text format hex key, field_text format hex value)
+pair_cut format hex key value all = cut_behind (separator format) (field_text format hex key) (field_text format hex value) (key_other format hex key all)
+
+-- ---- words: a mark begins with the word `#`, which is no key
+
+abbrev first_part : Option (List ℕ × List ℕ) → List ℕ
+first_part None = []
+first_part (Some parts) = parts.0
+
+hash_cut : (rest : List ℕ) → cut_at 32 (35 ∷ 32 ∷ rest) ≡ Some (35 ∷ [], rest)
+unfolding cut_at
+hash_cut rest = refl
+
+hash_word : bytes_of_word (35 ∷ []) ≡ Some []
+unfolding bytes_of_word
+hash_word = refl
+
+no_hash : (hex : Bool) (key : List ℕ) → AllByRecursion (λ byte. byte < 256) key → 1 ≤ length key → field_text Words hex key ≡ 35 ∷ [] → ⊥
+no_hash true key all some is = omega (arith, ap length is, length-encode_with lower_digits key)
+no_hash false key all some is =
+    let none : Some key ≡ Some [] = sym (printed_again key all) ∙ ap bytes_of_word is ∙ hash_word in
+    omega (arith, ap length (ap (λ found. unwrap_or found []) none))
+
+no_mark : (hex : Bool) (key value rest : List ℕ) → AllByRecursion (λ byte. byte < 256) key → 1 ≤ length key → pair_words Words hex key value ≡ 35 ∷ 32 ∷ rest → ⊥
+no_mark hex key value rest all some is =
+    let cut = sym (pair_cut Words hex key value all) ∙ ap (cut_at 32) is ∙ hash_cut rest in
+    no_hash hex key all some (ap first_part cut)
+
+-- ---- tab-separated text: a mark has no tab
+
+some_none : {A : Type 0} (x : A) → Some x ≡ None → ⊥
+some_none x is = false≢true (sym (ap is_some is))
+
+no_tab : (hex : Bool) (key value line : List ℕ) → AllByRecursion (λ byte. byte < 256) key → pair_words Tsv hex key value ≡ line → cut_at tab line ≡ None → ⊥
+no_tab hex key value line all is none =
+    some_none _ (sym (pair_cut Tsv hex key value all) ∙ ap (cut_at tab) is ∙ none)
+
+-- a test that tells
+eq_tells : {A : Type 0} (b : Bool) (x y : A) → Decides b (x ≡ y) → (x ≡ y) ⊎ ((b ≡ false) × (x ≡ y → ⊥))
+eq_tells true x y decides = inl (decides.0 refl)
+eq_tells false x y decides = inr (refl, λ same. absurd (false≢true (decides.1 same)))
+
+unnamed : (word : List ℕ) (format : PairFormat) → bytes_eq word (codes "words") ≡ false → bytes_eq word (codes "tsv") ≡ false → format_named word ≡ Some format → ⊥
+unnamed word format words tsv is = let none : None ≡ Some format = rw (words, tsv) at is in cc
+
+named : (word : List ℕ) (format : PairFormat) → format_named word ≡ Some format → cut_at tab (opening_words ++ word) ≡ None
+unfolding cut_at
+named word format is = elim (eq_tells (bytes_eq word (codes "words")) word (codes "words") (bytes_eq-Decides word (codes "words"))) [
+  | inl words ↦ rw words refl
+  | inr other ↦ elim (eq_tells (bytes_eq word (codes "tsv")) word (codes "tsv") (bytes_eq-Decides word (codes "tsv"))) [
+    | inl tsv ↦ rw tsv refl
+    | inr none ↦ absurd (unnamed word format other.0 none.0 is)
+  ]
+]
+
+counted_cut : (word : List ℕ) → cut_at tab word ≡ None → cut_at tab (end_words ++ word) ≡ None
+unfolding cut_at
+counted_cut word none = rw none refl
+
+index_small : (word : List ℕ) (count : ℕ) → index_spelled word ≡ Some count → count < 2 ^ 64
+unfolding number_up_to
+index_small word count is =
+    let found = cond_some _ _ _ is in
+    let within : digits_value 10 word ≤ 2 ^ 64 - 1 = grind (arith, nat_tests) in
+    omega (arith, found.1)
+
+counted : (word : List ℕ) (count : ℕ) → index_spelled word ≡ Some count → cut_at tab (end_words ++ word) ≡ None
+counted word count is =
+    let small : count < 2 ^ 64 = index_small word count is in
+    let same = number_alone (2 ^ 64 - 1) count word (omega arith) is in
+    counted_cut word (cut_nowhere tab word (rw same (graphic_other tab (decimal count) (omega arith) (decimal_graphic count small))))
+
+-- ---- no mark
+
+no_opening : (format : PairFormat) (hex : Bool) (key value : List ℕ) → AllByRecursion (λ byte. byte < 256) key → 1 ≤ length key → opening_in (pair_words format hex key value) ≡ None
+unfolding opening_in
+no_opening Words hex key value all some = none_from _ (λ named is.
+    let found = some_behind format_named (after_prefix opening_words (pair_words Words hex key value)) named is in
+    no_mark hex key value (drop 2 opening_words ++ found.0) all some (prefixed opening_words (pair_words Words hex key value) found.0 found.1))
+no_opening Tsv hex key value all some = none_from _ (λ format is.
+    let found = some_behind format_named (after_prefix opening_words (pair_words Tsv hex key value)) format is in
+    no_tab hex key value (opening_words ++ found.0) all (prefixed opening_words (pair_words Tsv hex key value) found.0 found.1) (named found.0 format found.2))
+
+no_end : (format : PairFormat) (hex : Bool) (key value : List ℕ) → AllByRecursion (λ byte. byte < 256) key → 1 ≤ length key → end_in (pair_words format hex key value) ≡ None
+unfolding end_in
+no_end Words hex key value all some = none_from _ (λ count is.
+    let found = some_behind index_spelled (after_prefix end_words (pair_words Words hex key value)) count is in
+    no_mark hex key value (drop 2 end_words ++ found.0) all some (prefixed end_words (pair_words Words hex key value) found.0 found.1))
+no_end Tsv hex key value all some = none_from _ (λ count is.
+    let found = some_behind index_spelled (after_prefix end_words (pair_words Tsv hex key value)) count is in
+    no_tab hex key value (end_words ++ found.0) all (prefixed end_words (pair_words Tsv hex key value) found.0 found.1) (counted found.0 count found.2))
+
+-- ---- the pair
+
+pair_again : (format : PairFormat) (hex : Bool) (key value : List ℕ) → IsPair key value → pair_in format hex (pair_words format hex key value) ≡ Ok (key, value)
+unfolding pair_in
+pair_again format hex key value pair =
+    let keys = recursion_from_All _ key pair.key_bytes in
+    let values = recursion_from_All _ value pair.value_bytes in
+    rw (
+      pair_cut format hex key value keys,
+      field_again format hex field.Key 1 key keys,
+      key_kept key pair.some pair.key_limit,
+      field_again format hex field.Value (length (field_text format hex key) + 2) value values,
+      value_kept value pair.value_limit,
+    ) refl
+
+line_by : (format : PairFormat) (hex : Bool) (line : List ℕ) (pair : List ℕ × List ℕ) → opening_in line ≡ None → end_in line ≡ None → pair_in format hex line ≡ Ok pair → (line ≡ [] → ⊥) → line_read format hex line ≡ Pair pair.0 pair.1
+unfolding line_read
+line_by format hex [] pair opening end is some = absurd (some refl)
+line_by format hex (byte ∷ line) pair opening end is some = rw (opening, end, is) refl
+
+not_empty : (format : PairFormat) (hex : Bool) (key value : List ℕ) → pair_words format hex key value ≡ [] → ⊥
+not_empty format hex key value is = omega (arith, ap length is, length-append (field_text format hex key) (separator format ∷ field_text format hex value))
+
+pub pairs_are_read : PairsAreRead
+pairs_are_read format hex key value pair =
+    let keys = recursion_from_All _ key pair.key_bytes in
+    line_by format hex (pair_words format hex key value) (key, value) (no_opening format hex key value keys pair.some) (no_end format hex key value keys pair.some)
+    (pair_again format hex key value pair) (not_empty format hex key value)
+
+newline_other : (format : PairFormat) (hex : Bool) (bytes : List ℕ) → AreBytes bytes → All (λ byte. byte ≢ newline) (field_text format hex bytes)
+newline_other Words hex bytes all = All-from_recursion _ _ (field_other Words hex newline bytes (omega arith) (recursion_from_All _ bytes all))
+newline_other Tsv hex bytes all = All-from_recursion _ _ (field_other Tsv hex newline bytes (omega arith) (recursion_from_All _ bytes all))
+
+separator_other : (format : PairFormat) → separator format ≢ newline
+separator_other Words is = omega arith
+separator_other Tsv is = omega arith
+
+pub pairs_are_one_line : PairsAreOneLine
+pairs_are_one_line format hex key value pair =
+    All-append (λ byte. byte ≢ newline) (field_text format hex key) (separator format ∷ field_text format hex value) (newline_other format hex key pair.key_bytes)
+    (All-cons (λ byte. byte ≢ newline) (separator format) (field_text format hex value) (separator_other format) (newline_other format hex value pair.value_bytes))

@@ -1,0 +1,35 @@
+-- The lines of a text of pairs, as they are written.
+use Rattle.std.specs.Prelude.{ℕ, List, ◌∷◌, ◌++◌, Bool, true, false, codes, decimal, flat_map}
+use Rattle.hex.specs.Hex.{encode_lower}
+use Rattle.exh_text.specs.Contents.{on_line}
+use Rattle.exh_text.specs.Printing.{printed}
+use Rattle.exh_pair_text.specs.declared.pair_format.PairFormat.{PairFormat}
+use Rattle.exh_pair_text.specs.declared.pair_format.PairFormat.TheVariants.{Words, Tsv}
+use Rattle.exh_pair_text.specs.Bytes.{byte_text}
+use Rattle.exh_pair_text.specs.Formats.{format_name, separator}
+
+-- a key or a value
+abbrev pub field_text : PairFormat → Bool → List ℕ → List ℕ
+field_text format true bytes = encode_lower bytes
+field_text Words false bytes = printed bytes
+field_text Tsv false bytes = flat_map byte_text bytes
+
+-- a pair, without the newline and with it
+abbrev pub pair_words : PairFormat → Bool → List ℕ → List ℕ → List ℕ
+pair_words format hex key value = field_text format hex key ++ separator format ∷ field_text format hex value
+
+abbrev pub pair_line : PairFormat → Bool → List ℕ → List ℕ → List ℕ
+pair_line format hex key value = on_line (pair_words format hex key value)
+
+-- what an export begins and ends with
+abbrev pub opening_words : List ℕ
+opening_words = codes "# exhash export "
+
+abbrev pub end_words : List ℕ
+end_words = codes "# exhash end "
+
+abbrev pub opening_line : PairFormat → List ℕ
+opening_line format = on_line (opening_words ++ format_name format)
+
+abbrev pub end_line : ℕ → List ℕ
+end_line count = on_line (end_words ++ decimal count)

@@ -1,0 +1,357 @@
+//! Texts of pairs, written by hand from the formats' own words.
+
+use crate::{Field, Line, PairFormat, WrongLine, line_of, push_end, push_opening, push_pair};
+use std::alloc::{AllocError, Global};
+use std::fmt::Display;
+use std::test::Fail;
+
+const FORMATS: [PairFormat; 2] = [PairFormat::Words, PairFormat::Tsv];
+
+// A pair's line in a format.
+fn written(
+    alloc: Global,
+    format: PairFormat,
+    is_hex: bool,
+    key: &[u8],
+    value: &[u8],
+) -> Result<Vec<u8>, AllocError> {
+    let mut text = Vec::new(alloc);
+    push_pair(&mut text, format, is_hex, key, value)?;
+    Ok(text)
+}
+
+// Whether a line reads as this pair.
+fn is_pair(format: PairFormat, is_hex: bool, line: &[u8], key: &[u8], value: &[u8]) -> bool {
+    match line_of(format, is_hex, line) {
+        Line::Pair { key: k, value: v } => k.as_bytes() == key && v.as_bytes() == value,
+        _ => false,
+    }
+}
+
+// Whether what is written of a pair is one line that reads as it, in each format.
+fn is_again(alloc: Global, key: &[u8], value: &[u8]) -> Result<bool, AllocError> {
+    for format in FORMATS {
+        for is_hex in [false, true] {
+            let text = written(alloc, format, is_hex, key, value)?;
+            let Some(line) = text.as_slice().strip_suffix(b"\n") else {
+                return Ok(false);
+            };
+            if line.contains(&b'\n') || !is_pair(format, is_hex, line, key, value) {
+                return Ok(false);
+            }
+        }
+    }
+    Ok(true)
+}
+
+#[test]
+fn each_byte_is_read_again(rt: HostRuntime) -> Result<(), Fail> {
+    for byte in 0..=255u8 {
+        let bytes = [byte];
+        assert!(rt; is_again(rt.alloc(), &bytes, b"v")?, "key {byte}");
+        assert!(rt; is_again(rt.alloc(), b"k", &bytes)?, "value {byte}");
+    }
+    Ok(())
+}
+
+#[test]
+fn each_length_is_read_again(rt: HostRuntime) -> Result<(), Fail> {
+    let plain = [b'a'; 128];
+    let other = [0xffu8; 128];
+    for length in 1..65usize {
+        assert!(rt; is_again(rt.alloc(), &plain[..length], b"")?);
+        assert!(rt; is_again(rt.alloc(), &other[..length], b"")?);
+    }
+    for length in 0..129usize {
+        assert!(rt; is_again(rt.alloc(), b"k", &plain[..length])?);
+        assert!(rt; is_again(rt.alloc(), b"k", &other[..length])?);
+    }
+    Ok(())
+}
+
+// A format, whether it is in hexadecimal, a key, a value and their line.
+type Written = (
+    PairFormat,
+    bool,
+    &'static [u8],
+    &'static [u8],
+    &'static [u8],
+);
+
+const LINES: [Written; 10] = [
+    (PairFormat::Words, false, b"ann", b"red", b"ann red\n"),
+    (
+        PairFormat::Words,
+        false,
+        b"#1",
+        b"dark blue",
+        b"#2331 #6461726b20626c7565\n",
+    ),
+    (PairFormat::Words, false, b"k", b"", b"k #\n"),
+    (PairFormat::Words, true, b"ann", b"", b"616e6e \n"),
+    (PairFormat::Words, true, b"\x00\xff", b"a", b"00ff 61\n"),
+    (
+        PairFormat::Tsv,
+        false,
+        b"ann",
+        b"dark blue",
+        b"ann\tdark blue\n",
+    ),
+    (
+        PairFormat::Tsv,
+        false,
+        b"a\tb\\",
+        b"\n\r",
+        b"a\\tb\\\\\t\\n\\r\n",
+    ),
+    (
+        PairFormat::Tsv,
+        false,
+        b"\xc3\xa9",
+        b"\x1f~\x7f",
+        b"\\xc3\\xa9\t\\x1f~\\x7f\n",
+    ),
+    (PairFormat::Tsv, false, b"k", b"", b"k\t\n"),
+    (PairFormat::Tsv, true, b"ann", b"\x09", b"616e6e\t09\n"),
+];
+
+#[test]
+fn lines_are_these(rt: HostRuntime) -> Result<(), Fail> {
+    for (format, is_hex, key, value, want) in LINES {
+        let text = written(rt.alloc(), format, is_hex, key, value)?;
+        assert!(rt; text.as_slice() == want);
+    }
+    Ok(())
+}
+
+const READ: [Written; 6] = [
+    (
+        PairFormat::Tsv,
+        false,
+        b"\xab\xcd",
+        b"\xef",
+        b"\\xAb\\xcD\t\\xEF",
+    ),
+    (
+        PairFormat::Tsv,
+        false,
+        b"\xc3\xa9 \x00",
+        b"v\r",
+        b"\xc3\xa9 \x00\tv\r",
+    ),
+    (
+        PairFormat::Tsv,
+        false,
+        b"# exhash end 1",
+        b"",
+        b"# exhash end 1\t",
+    ),
+    (PairFormat::Tsv, true, b"\xab", b"\xcd", b"aB\tCd"),
+    (PairFormat::Words, true, b"\xab", b"", b"AB "),
+    (PairFormat::Words, false, b"a", b"b", b"#61 #62"),
+];
+
+#[test]
+fn other_spellings_are_read(rt: HostRuntime) {
+    for (format, is_hex, key, value, line) in READ {
+        assert!(rt; is_pair(format, is_hex, line, key, value));
+    }
+}
+
+// A format, whether it is in hexadecimal, a line, and why it is no pair.
+type Refused = (PairFormat, bool, &'static [u8], WrongLine);
+
+const WRONG: [Refused; 21] = [
+    (PairFormat::Words, false, b"ann", WrongLine::NoValue),
+    (PairFormat::Words, false, b"ann\tred", WrongLine::NoValue),
+    (PairFormat::Words, false, b"# red", WrongLine::EmptyKey),
+    (
+        PairFormat::Words,
+        false,
+        b" red",
+        WrongLine::NoWord(Field::Key),
+    ),
+    (
+        PairFormat::Words,
+        false,
+        b"#6 red",
+        WrongLine::NoWord(Field::Key),
+    ),
+    (
+        PairFormat::Words,
+        false,
+        b"#6A red",
+        WrongLine::NoWord(Field::Key),
+    ),
+    (
+        PairFormat::Words,
+        false,
+        b"ann ",
+        WrongLine::NoWord(Field::Value),
+    ),
+    (
+        PairFormat::Words,
+        false,
+        b"ann dark blue",
+        WrongLine::NoWord(Field::Value),
+    ),
+    (
+        PairFormat::Words,
+        false,
+        b"ann red\r",
+        WrongLine::NoWord(Field::Value),
+    ),
+    (
+        PairFormat::Words,
+        false,
+        b"# exhash end 01",
+        WrongLine::EmptyKey,
+    ),
+    (
+        PairFormat::Words,
+        false,
+        b"# exhash export csv",
+        WrongLine::EmptyKey,
+    ),
+    (
+        PairFormat::Words,
+        true,
+        b"61 6",
+        WrongLine::NoDigits { at: 4 },
+    ),
+    (
+        PairFormat::Words,
+        true,
+        b"6g 61",
+        WrongLine::NoDigits { at: 1 },
+    ),
+    (PairFormat::Words, true, b" 61", WrongLine::EmptyKey),
+    (PairFormat::Tsv, false, b"ann red", WrongLine::NoValue),
+    (PairFormat::Tsv, false, b"\tred", WrongLine::EmptyKey),
+    (
+        PairFormat::Tsv,
+        false,
+        b"a\\0\tred",
+        WrongLine::NoEscape { at: 2 },
+    ),
+    (
+        PairFormat::Tsv,
+        false,
+        b"ann\tred\\",
+        WrongLine::NoEscape { at: 8 },
+    ),
+    (
+        PairFormat::Tsv,
+        false,
+        b"ann\t\\x4",
+        WrongLine::NoEscape { at: 5 },
+    ),
+    (
+        PairFormat::Tsv,
+        false,
+        b"ann\tred\tblue",
+        WrongLine::SecondTab { at: 8 },
+    ),
+    (
+        PairFormat::Tsv,
+        true,
+        b"61\t61\t62",
+        WrongLine::NoDigits { at: 6 },
+    ),
+];
+
+fn wrong_in(format: PairFormat, is_hex: bool, line: &[u8]) -> Option<WrongLine> {
+    match line_of(format, is_hex, line) {
+        Line::Wrong(wrong) => Some(wrong),
+        _ => None,
+    }
+}
+
+#[test]
+fn wrong_lines_are_refused(rt: HostRuntime) {
+    for (format, is_hex, line, want) in WRONG {
+        assert!(rt; wrong_in(format, is_hex, line) == Some(want));
+    }
+}
+
+fn without_newline(text: &[u8]) -> &[u8] {
+    match text {
+        [line @ .., b'\n'] => line,
+        _ => text,
+    }
+}
+
+#[test]
+fn long_keys_and_values_are_refused(rt: HostRuntime) -> Result<(), Fail> {
+    let bytes = [0xffu8; 300];
+    for format in FORMATS {
+        for is_hex in [false, true] {
+            let key = written(rt.alloc(), format, is_hex, &bytes[..65], b"v")?;
+            let value = written(rt.alloc(), format, is_hex, b"k", &bytes[..129])?;
+            let both = written(rt.alloc(), format, is_hex, &bytes, &bytes)?;
+            let found = wrong_in(format, is_hex, without_newline(&key));
+            assert!(rt; found == Some(WrongLine::LongKey { length: 65 }));
+            let found = wrong_in(format, is_hex, without_newline(&value));
+            assert!(rt; found == Some(WrongLine::LongValue { length: 129 }));
+            let found = wrong_in(format, is_hex, without_newline(&both));
+            assert!(rt; found == Some(WrongLine::LongKey { length: 300 }));
+        }
+    }
+    Ok(())
+}
+
+// Whether a line reads as an opening of this format.
+fn is_opening(line: &[u8], format: PairFormat) -> bool {
+    match line_of(PairFormat::Words, false, line) {
+        Line::Opening(found) => found == format,
+        _ => false,
+    }
+}
+
+// Whether a line reads as an end of so many pairs.
+fn is_end(line: &[u8], count: u64) -> bool {
+    match line_of(PairFormat::Tsv, true, line) {
+        Line::End(found) => found == count,
+        _ => false,
+    }
+}
+
+#[test]
+fn openings_and_ends_are_read(rt: HostRuntime) -> Result<(), Fail> {
+    let mut text = Vec::new(rt.alloc());
+    push_opening(&mut text, PairFormat::Tsv)?;
+    assert!(rt; text.as_slice() == b"# exhash export tsv\n".as_slice());
+    push_opening(&mut text, PairFormat::Words)?;
+    push_end(&mut text, 1204)?;
+    let all = b"# exhash export tsv\n# exhash export words\n# exhash end 1204\n".as_slice();
+    assert!(rt; text.as_slice() == all);
+    assert!(rt; is_opening(b"# exhash export tsv", PairFormat::Tsv));
+    assert!(rt; is_opening(b"# exhash export words", PairFormat::Words));
+    assert!(rt; is_end(b"# exhash end 0", 0));
+    assert!(rt; is_end(b"# exhash end 18446744073709551615", u64::MAX));
+    assert!(rt; !is_end(b"# exhash end 18446744073709551616", u64::MAX));
+    assert!(rt;
+        match line_of(PairFormat::Tsv, false, b"") {
+            Line::Empty => true,
+            _ => false
+        }
+    );
+    Ok(())
+}
+
+fn prints<T: Display>(alloc: Global, told: &T, want: &str) -> Result<bool, AllocError> {
+    Ok(told.to_string(alloc)?.as_str() == want)
+}
+
+#[test]
+fn sentences(rt: HostRuntime) -> Result<(), Fail> {
+    let word = "its value is no word of a text of pairs";
+    assert!(rt; prints(rt.alloc(), &WrongLine::NoWord(Field::Value), word)?);
+    let key = "a key has at most 64 bytes, and this one has 65";
+    assert!(rt; prints(rt.alloc(), &WrongLine::LongKey { length: 65 }, key)?);
+    let escape = "the backslash at byte 3 begins none of \\t, \\n, \\r, \\\\ and \\xHH";
+    assert!(rt; prints(rt.alloc(), &WrongLine::NoEscape { at: 3 }, escape)?);
+    let second = "a second tab stands at byte 8: in a value a tab is written \\t";
+    assert!(rt; prints(rt.alloc(), &WrongLine::SecondTab { at: 8 }, second)?);
+    Ok(())
+}

@@ -1,0 +1,77 @@
+//! How pairs are written, one a line, and what an export begins and ends with.
+ghost use Rattle.std.specs.Prelude.{◌≡◌, ◌++◌, OnOk, flat_map};
+ghost use Rattle.exh_text.specs.Printing.{Keeps};
+ghost use Rattle.exh_pair_text.specs.Bytes.{byte_text};
+ghost use Rattle.exh_pair_text.specs.Lines.{end_line, field_text, opening_line, pair_line};
+
+use crate::PairFormat;
+use crate::byte_text::{push_byte, push_digits};
+use exh_text::{push_number, push_text, push_value};
+use std::alloc::AllocError;
+
+/// Adds the line of a pair, with its newline. A key that has 1 to 64 bytes and a value that has at most 128 are read again.
+pub fn push_pair(
+    text: &mut Vec<u8>,
+    format: PairFormat,
+    is_hex: bool,
+    key: &[u8],
+    value: &[u8],
+) -> Result<(), AllocError>
+    ensures ok { OnOk result (text.new.items ≡ text.old.items ++ pair_line format is_hex key.now value.now) }
+    ensures kept { Keeps text.old.items text.new.items }
+{
+    push_field(text, format, is_hex, key)?;
+    text.extend_from_slice([format.separator()].as_slice())?;
+    push_field(text, format, is_hex, value)?;
+    push_text(text, "\n")
+}
+
+/// Adds the first line of an export, which names its format.
+pub fn push_opening(text: &mut Vec<u8>, format: PairFormat) -> Result<(), AllocError>
+    ensures ok { OnOk result (text.new.items ≡ text.old.items ++ opening_line format) }
+    ensures kept { Keeps text.old.items text.new.items }
+{
+    push_text(text, "# exhash export ")?;
+    push_text(text, format.name())?;
+    push_text(text, "\n")
+}
+
+/// Adds the last line of an export, which has the number of its pairs.
+pub fn push_end(text: &mut Vec<u8>, count: u64) -> Result<(), AllocError>
+    ensures ok { OnOk result (text.new.items ≡ text.old.items ++ end_line count) }
+    ensures kept { Keeps text.old.items text.new.items }
+{
+    push_text(text, "# exhash end ")?;
+    push_number(text, count)?;
+    push_text(text, "\n")
+}
+
+// Adds a key or a value.
+fn push_field(
+    text: &mut Vec<u8>,
+    format: PairFormat,
+    is_hex: bool,
+    bytes: &[u8],
+) -> Result<(), AllocError>
+    ensures ok { OnOk result (text.new.items ≡ text.old.items ++ field_text format is_hex bytes.now) }
+    ensures kept { Keeps text.old.items text.new.items }
+{
+    if is_hex {
+        return push_digits(text, bytes);
+    }
+    match format {
+        PairFormat::Words => push_value(text, bytes),
+        PairFormat::Tsv => push_escaped(text, bytes),
+    }
+}
+
+// Adds bytes, each as tab-separated text spells it.
+fn push_escaped(text: &mut Vec<u8>, bytes: &[u8]) -> Result<(), AllocError>
+    ensures ok { OnOk result (text.new.items ≡ text.old.items ++ flat_map byte_text bytes.now) }
+    ensures kept { Keeps text.old.items text.new.items }
+{
+    for byte in bytes {
+        push_byte(text, *byte)?;
+    }
+    Ok(())
+}
