@@ -1,5 +1,6 @@
 //! Who comes in between the calls of a saver.
 ghost use Rattle.std.specs.Prelude.{◌≡◌, Bool, false, true};
+ghost use Rattle.exh_saving.specs.declared.source.SourceFault.TheVariants.{Writer};
 ghost use Rattle.exh_disk_fakes.specs.Past.{known};
 
 use crate::memory_disk::{MAGIC, SAVED};
@@ -109,6 +110,8 @@ struct Bytes {
 
 impl Source for Bytes {
     ghost leaves = { λ old new. new ≡ old };
+
+    ghost fails = { λ _ fault. fault ≡ Writer };
 
     ghost bytes = { λ source. source.bytes.items };
 

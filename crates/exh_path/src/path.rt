@@ -1,10 +1,11 @@
-ghost use Rattle.std.specs.Prelude.{◌≡◌, ◌⊎◌, ℕ, IfErr, IfNone, IfOk, IfSome, List, OnOk};
+ghost use Rattle.std.specs.Prelude.{◌≡◌, ◌⊎◌, ℕ, ⊤, IfErr, IfNone, IfOk, IfSome, List, OnOk};
 ghost use Rattle.exh_disk.specs.declared.stage.Stage.TheVariants.{Settled};
 ghost use Rattle.std.specs.Io.KnownBytes.{Appends};
 ghost use Rattle.exh_path.specs.declared.path.TheConstants.{MAGIC};
 ghost use Rattle.exh_saving.specs.Refused.{IsRefused};
-ghost use Rattle.exh_saving.specs.Replaced.{IsFree, LeadsToDevice, MaySave};
-ghost use Rattle.exh_saving.specs.Saved.{IsSaved, SavesAt};
+ghost use Rattle.exh_saving.specs.Replaced.{LeadsToDevice, MaySave};
+ghost use Rattle.exh_saving.specs.Saved.{IsSaved, IsWrittenTo, SavesAt};
+ghost use Rattle.exh_saving.specs.Unsaved.{IsSaveRefused, MayPlace};
 ghost use Rattle.exh_file.specs.Draft.{IsDraftLeft, bytes_in};
 
 use crate::wards::{Metered, Wards};
@@ -51,14 +52,15 @@ pub fn save_at<D: Disk, P: Pages + Drop, T: Terminal>(
     ensures bytes { IfOk result.0 (λ saved. IfSome saved.file (λ file.
         Appends D.unwritten (D.holds file) (bytes_in draft))) }
     ensures settled { IfOk result.0 (λ saved. IfSome saved.file (λ file. D.stage file ≡ Settled)) }
-    ensures device { IfOk result.0 (λ saved. IfNone saved.file (LeadsToDevice D.answers path.now)) }
+    ensures device { IfOk result.0 (λ saved. IfNone saved.file (LeadsToDevice D.answers path.now × IsWrittenTo D.Device.contents (bytes_in draft))) }
+    ensures err { IfErr result.0 (IsSaveRefused D.leads D.answers D.finds (λ _. ⊤) MAGIC path.now seen.entry) }
     ensures wards { IsDraftLeft draft result.1 }
     // At each moment of the call a crash leaves at the path, without links, what it could leave there before, or these wards.
     // A file comes there only where nothing is, or what may be replaced.
     ensures crash { (whole : List ℕ) × ((whole ≡ path.now) ⊎ D.leads path.now whole)
         × SavesAt (D.history disk.old whole) (D.history disk.new whole) D.holds
         (IsSaved D.unwritten (bytes_in draft)) result.0
-        × IfOk result.0 (λ saved. IfSome saved.file (λ _. IsFree D.answers D.finds MAGIC path.now seen.entry whole)) }
+        × IfOk result.0 (λ saved. IfSome saved.file (λ _. MayPlace D.answers D.finds MAGIC path.now seen.entry whole)) }
 {
     let wards = Wards { draft };
     let (saved, wards) = save(

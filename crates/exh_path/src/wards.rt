@@ -1,3 +1,4 @@
+ghost use Rattle.std.specs.Prelude.{⊤};
 ghost use Rattle.exh_file.specs.Draft.{IsDraftLeft, bytes_in};
 
 use exh_file::{Draft, SaveFault};
@@ -14,6 +15,9 @@ pub(crate) struct Wards<P: Pages + Drop> {
 
 impl<P: Pages + Drop> Source for Wards<P> {
     ghost leaves = { λ old new. IsDraftLeft old.draft new.draft };
+
+    // No clause of a draft's writing tells of refused growths or of pages that are out of reach.
+    ghost fails = { λ _ _. ⊤ };
 
     ghost bytes = { λ wards. bytes_in wards.draft };
 

@@ -1,3 +1,5 @@
+-- for a fault that is handed on
+pub mod Handed
 -- for a save that wrote no file
 pub mod NoFile
 -- for a save's answer

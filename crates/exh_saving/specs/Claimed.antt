@@ -1,10 +1,9 @@
 -- The file beside a path that a save has for itself, and why it has none.
-use Rattle.std.specs.Prelude.{◌≡◌, ◌⊎◌, ℕ, Bool, true, false, List, None, Option, Some}
+use Rattle.std.specs.Prelude.{◌≡◌, ◌⊎◌, ℕ, Bool, true, false, List, None, Option, Some, ⊤}
 use Rattle.std.specs.IoError.{error_kind}
 use Rattle.std.specs.declared.io.Error.{Error}
 use Rattle.std.specs.declared.io.ErrorKind.{ErrorKind}
 use Rattle.std.specs.declared.io.ErrorKind.TheVariants.{AlreadyExists, NotFound, PermissionDenied, WouldBlock}
-use Rattle.std.specs.declared.string.String.{String}
 use Rattle.exh_disk.specs.Answer.{Answer, Begins, Fails, IsBusyTold, IsTold, Named, Runs, Strange, Unnamed}
 use Rattle.exh_disk.specs.declared.fault.Call.{Call}
 use Rattle.exh_disk.specs.declared.fault.Call.TheVariants.{Ask, Empty, Lock, Make}
@@ -39,8 +38,8 @@ abbrev pub MayClaim : (Answer → Type 0) → List ℕ → Option Found → List
 MayClaim answers magic old name = answers (Unnamed name) ⊎ (IsLeft answers name old × IsOfASave answers magic name true)
 
 -- it may not: the name is the path's, or something has it that no save left
-abbrev pub IsTaken : (Answer → Type 0) → List ℕ → List ℕ → Option Found → List ℕ → Type 0
-IsTaken answers magic path old name = (name ≡ path)
+abbrev pub IsTakenName : (Answer → Type 0) → List ℕ → List ℕ → Option Found → List ℕ → Type 0
+IsTakenName answers magic path old name = (name ≡ path)
     ⊎ ((found : Found) × (runner : Option Runner) × answers (Named name found) × IsRunner answers runner × (IsLeftOver found runner old → ⊥))
     ⊎ IsOfASave answers magic name false
 
@@ -68,6 +67,11 @@ IsUnmade answers name fault = IsTold answers Make fault
     ⊎ IsBusyAt answers NotFound Make fault
     ⊎ IsUnowned answers name fault
 
+-- each name beside a path is taken
+abbrev pub IsNoName : DiskFault → Type 0
+IsNoName (NoName names) = ⊤
+IsNoName fault = ⊥
+
 -- no file was claimed beside a path
 abbrev pub IsUnclaimed : (Answer → Type 0) → DiskFault → Type 0
-IsUnclaimed answers fault = (fault ≡ Memory) ⊎ ((names : String) × (fault ≡ NoName names)) ⊎ ((name : List ℕ) × IsUnmade answers name fault)
+IsUnclaimed answers fault = (fault ≡ Memory) ⊎ IsNoName fault ⊎ ((name : List ℕ) × IsUnmade answers name fault)

@@ -1,5 +1,5 @@
 -- Which owner, group and permissions a file beside a path gets.
-use Rattle.std.specs.Prelude.{◌≡◌, ℕ, Bool, true, false, None, Option, Some, bit_and}
+use Rattle.std.specs.Prelude.{ℕ, Bool, true, false, None, Some, bit_and}
 use Rattle.std.specs.declared.io.Error.{Error}
 use Rattle.exh_disk.specs.Answer.{Answer, Fails, Gives, Permits}
 use Rattle.exh_disk.specs.declared.found.Found.{Found}

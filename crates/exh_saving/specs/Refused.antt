@@ -1,7 +1,10 @@
 -- Why a path can't be saved to, by what a disk answered.
 use Rattle.std.specs.Prelude.{◌≡◌, ◌≢◌, ◌⊎◌, ℕ, [], IsSomeAnd, List, Option}
 use Rattle.std.specs.Borrow.{Bor}
-use Rattle.exh_disk.specs.Answer.{Answer, Begins, IsTold, Leads, Named}
+use Rattle.std.specs.IoError.{error_kind}
+use Rattle.std.specs.declared.io.Error.{Error}
+use Rattle.std.specs.declared.io.ErrorKind.TheVariants.{NotFound}
+use Rattle.exh_disk.specs.Answer.{Answer, Begins, Fails, IsTold, Leads, Named, Runs}
 use Rattle.exh_disk.specs.Folder.{IsNameIn}
 use Rattle.exh_disk.specs.Found.{IsClosedTo, IsUnchanged}
 use Rattle.exh_disk.specs.Seen.{IsKept}
@@ -18,12 +21,17 @@ use Rattle.exh_disk.specs.declared.seen.Seen.{Seen}
 abbrev pub IsTaken : (Answer → Type 0) → List ℕ → DiskFault → Type 0
 IsTaken answers name fault = (found : Found) × answers (Named name found) × (((fault ≡ DanglingLink) × (found.kind ≡ Link)) ⊎ ((fault ≡ Changed) × (found.kind ≢ Link)))
 
--- a path names no file, leads to a folder, or to nothing though something has the name; or asking failed
+-- a path leads to nothing
+abbrev pub IsUnfound : (Answer → Type 0) → Type 0
+IsUnfound answers = (error : Error) × answers (Fails error) × (error_kind error ≡ NotFound)
+
+-- A path names no file, leads to a folder, or to nothing though something has the name; or asking failed. Memory runs out for
+-- a path that leads to nothing; else the disk says so.
 abbrev pub IsPathRefused : (Answer → Type 0) → List ℕ → DiskFault → Type 0
 IsPathRefused answers named fault = ((fault ≡ NoFileName) × IsNameIn named [])
     ⊎ ((fault ≡ Folder) × ((found : Found) × answers (Leads named found) × (found.kind ≡ FolderKind)))
     ⊎ IsTaken answers named fault
-    ⊎ (fault ≡ Memory)
+    ⊎ ((fault ≡ Memory) × IsUnfound answers)
     ⊎ IsTold answers Ask fault
 
 -- what was found at a path is no regular file, or changed until it was read; or it isn't empty and begins otherwise; or reading failed
@@ -44,7 +52,7 @@ IsOldRefused answers magic seen path fault = IsNameRefused answers magic path fa
 -- a folder is none, or closed to whom the program runs for; or asking failed
 abbrev pub IsFolderRefused : (Answer → Type 0) → List ℕ → DiskFault → Type 0
 IsFolderRefused answers folder fault = ((found : Found) × answers (Leads folder found) × (fault ≡ ClosedFolder)
-    × ((found.kind ≢ FolderKind) ⊎ ((runner : Runner) × IsClosedTo found runner)))
+    × ((found.kind ≢ FolderKind) ⊎ ((runner : Runner) × answers (Runs runner) × IsClosedTo found runner)))
     ⊎ IsTold answers Make fault
 
 -- a path can't be saved to: by itself, by what is there where it leads, or by its folder

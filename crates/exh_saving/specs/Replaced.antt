@@ -25,10 +25,13 @@ abbrev pub IsReplaceable : (Answer → Type 0) → List ℕ → List ℕ → Opt
 IsReplaceable answers magic path None = answers (Unnamed path)
 IsReplaceable answers magic path (Some found) = answers (Named path found) × IsReplaceableFile answers magic path found
 
--- what is at a path without links may be replaced, by how it begins and by the file that was opened, where one was
+-- this, at a path without links, may be replaced, by how it begins and by the file that was opened, where one was
+abbrev pub MayTake : {O : Type 0} → (Answer → Type 0) → (O → Found → Type 0) → List ℕ → List ℕ → Option (Bor (Seen O)) → List ℕ → Option Found → Type 0
+MayTake answers finds magic named seen path there = IsReplaceable answers magic path there × IfSome seen (λ seen. MayReplace finds seen.now named path there)
+
+-- so may what is there
 abbrev pub IsFree : {O : Type 0} → (Answer → Type 0) → (O → Found → Type 0) → List ℕ → List ℕ → Option (Bor (Seen O)) → List ℕ → Type 0
-IsFree answers finds magic named seen path = (there : Option Found) × IsReplaceable answers magic path there
-    × IfSome seen (λ seen. MayReplace finds seen.now named path there)
+IsFree answers finds magic named seen path = (there : Option Found) × MayTake answers finds magic named seen path there
 
 -- a path leads to what is written as it stands
 abbrev pub LeadsToDevice : (Answer → Type 0) → List ℕ → Type 0

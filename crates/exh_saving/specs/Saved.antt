@@ -25,6 +25,10 @@ abbrev pub IsSaved : Option (List ℕ) → List ℕ → Standing → Type 0
 IsSaved unwritten bytes Nothing = ⊥
 IsSaved unwritten bytes (File has) = Appends unwritten has bytes
 
+-- these bytes were written to something, as far as a model says which it has
+abbrev pub IsWrittenTo : {W : Type 0} → (W → Option (List ℕ)) → List ℕ → Type 0
+IsWrittenTo {W = W} contents bytes = (old : W) × (new : W) × Appends (contents old) (contents new) bytes
+
 -- A save of what is new at a path. At each moment of it a crash leaves there what it could leave before, or what is new;
 -- where the save is refused nothing came there, and where it is done the file that was written, if one was;
 -- where the folder is on the disk too, a crash leaves what is new.

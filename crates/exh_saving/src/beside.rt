@@ -1,13 +1,16 @@
 //! A save of a regular file: it is written beside its path, and renamed over it, or linked to it where nothing is there.
-ghost use Rattle.std.specs.Prelude.{◌≡◌, ◌≢◌, ◌⊎◌, ◌↔◌, IfOk, IsOk, IsTrue, OnErr, Option, OnOk, string_bytes, true};
+ghost use Rattle.std.specs.Prelude.{◌≡◌, ◌≢◌, ◌⊎◌, ◌↔◌, IfErr, IfOk, IsErrAnd, IsOk, IsTrue, OnErr, OnOk, string_bytes, true};
 ghost use Rattle.std.specs.Io.KnownBytes.{Appends};
 ghost use Rattle.std.specs.Option.{option_map};
 ghost use Rattle.exh_disk.specs.declared.stage.Stage.TheVariants.{Confirmed, Empty, Placed, Settled, Unlinkable};
 ghost use Rattle.exh_disk.specs.History.{placed};
 ghost use Rattle.exh_disk.specs.Stage.{is_fillable, is_ours};
-ghost use Rattle.exh_disk.specs.declared.found.Found.{Found};
-ghost use Rattle.exh_saving.specs.Replaced.{IsFree, IsReplaceable, IsStill};
+ghost use Rattle.exh_disk.specs.Answer.{IsTold};
+ghost use Rattle.exh_disk.specs.declared.fault.Call.TheVariants.{Ask, Link, Rename};
+ghost use Rattle.exh_saving.specs.Claimed.{IsClaimed, IsUnclaimed};
+ghost use Rattle.exh_saving.specs.Replaced.{IsStill};
 ghost use Rattle.exh_saving.specs.Saved.{saved_history};
+ghost use Rattle.exh_saving.specs.Unsaved.{IsAgain, IsCome, IsUnplaced, IsUnprepared, IsUnsaved, IsUnwritten, MayPlace};
 
 use crate::claiming::{claim, see_own};
 use crate::dressing::dress;
@@ -36,7 +39,9 @@ pub(crate) fn save_beside<D: Disk, S: Source, V: Watch>(
     ensures bytes { IfOk result.0 (λ saved. Appends D.unwritten (D.holds saved.0) (S.bytes source)) }
     ensures placed { IfOk result.0 (λ saved. D.history disk.new path.now ≡ saved_history (D.history disk.old path.now) (D.holds saved.0) saved.1) }
     ensures crash { OnErr result.0 (D.history disk.new path.now ≡ D.history disk.old path.now) }
-    ensures free { OnOk result.0 (IsFree D.answers D.finds target.now.magic target.now.path.now target.now.seen path.now) }
+    ensures free { OnOk result.0 (MayPlace D.answers D.finds target.now.magic target.now.path.now target.now.seen path.now) }
+    ensures err { IfErr result.0 (IsUnsaved D.leads D.answers D.finds (S.fails source) target.now.magic target.now.path.now target.now.seen path.now) }
+    ensures wrote { OnOk result.0 (S.leaves source result.1) }
     ensures source { (result.1 ≡ source) ⊎ S.leaves source result.1 }
 {
     let mut old = match hold_old(disk, path, target) {
@@ -76,6 +81,7 @@ fn finish<D: Disk>(
     requires beside { name.now ≢ path.now }
     ensures settled { IfOk result (λ saved. D.stage saved.0 ≡ Settled) }
     ensures filled { OnOk result (IsOk filled) }
+    ensures why { IfErr result (λ fault. IsErrAnd filled (λ error. error ≡ fault) ⊎ IsUnplaced D.leads D.answers named.now path.now name.now fault) }
     ensures bytes { IfOk result (λ saved. D.holds saved.0 ≡ D.holds file) }
     ensures placed { IfOk result (λ saved. D.history disk.new path.now ≡ saved_history (D.history disk.old path.now) (D.holds saved.0) saved.1) }
     ensures crash { OnErr result (D.history disk.new path.now ≡ D.history disk.old path.now) }
@@ -117,6 +123,8 @@ fn claim_beside<D: Disk>(
     ensures stage { IfOk result (λ claimed. D.stage claimed.0 ≡ Empty) }
     ensures bytes { IfOk result (λ claimed. D.holds claimed.0 ≡ D.unwritten) }
     ensures beside { IfOk result (λ claimed. string_bytes claimed.1 ≢ path.now) }
+    ensures free { IfOk result (λ claimed. IsClaimed D.answers target.now.magic path.now (option_map (λ held. held.found) old.now) (string_bytes claimed.1)) }
+    ensures err { IfErr result (IsUnclaimed D.answers) }
     ensures crash { D.history disk.new path.now ≡ D.history disk.old path.now }
 {
     if let Some(old) = old {
@@ -139,6 +147,9 @@ fn fill<D: Disk, S: Source, V: Watch>(
     requires bytes { D.holds file ≡ D.unwritten }
     ensures stage { is_fillable (D.stage result.0) ≡ true }
     ensures source { (result.2 ≡ source) ⊎ S.leaves source result.2 }
+    ensures again { OnOk result.1 (IsAgain D.answers D.finds target.now.magic target.now.path.now target.now.seen path.now old) }
+    ensures err { IfErr result.1 (λ fault. IsUnprepared D.answers target.now.magic target.now.seen path.now old fault ⊎ IsUnwritten (S.fails source) fault) }
+    ensures wrote { OnOk result.1 (S.leaves source result.2) }
     ensures bytes { OnOk result.1 (Appends D.unwritten (D.holds result.0) (S.bytes source)) }
     ensures crash { D.history disk.new ≡ D.history disk.old }
 {
@@ -161,7 +172,8 @@ fn prepare<D: Disk>(
     old: Option<Found>,
 ) -> Result<(), DiskFault>
     requires { D.stage file.old ≡ Empty }
-    ensures still { OnOk result ((there : Option Found) × IsReplaceable D.answers target.now.magic path.now there × IsStill old there) }
+    ensures again { OnOk result (IsAgain D.answers D.finds target.now.magic target.now.path.now target.now.seen path.now old) }
+    ensures err { IfErr result (IsUnprepared D.answers target.now.magic target.now.seen path.now old) }
     ensures stage { is_fillable (D.stage file.new) ≡ true }
     ensures bytes { D.holds file.new ≡ D.holds file.old }
     ensures crash { D.history disk.new ≡ D.history disk.old }
@@ -194,6 +206,7 @@ fn put<D: Disk>(
     requires stage { is_fillable (D.stage file.old) ≡ true }
     requires beside { name.now ≢ path.now }
     ensures filled { OnOk result (IsOk filled) }
+    ensures why { IfErr result (λ fault. IsErrAnd filled (λ error. error ≡ fault) ⊎ IsUnplaced D.leads D.answers named.now path.now name.now fault) }
     ensures ok { OnOk result (D.stage file.new ≡ Placed) }
     ensures err { OnErr result (is_ours (D.stage file.new) ≡ true) }
     ensures bytes { D.holds file.new ≡ D.holds file.old }
@@ -227,6 +240,7 @@ fn put_over<D: Disk>(
     requires held { D.stands old.now.held path.now ≡ true }
     ensures ok { OnOk result (D.stage file.new ≡ Placed) }
     ensures err { OnErr result (is_ours (D.stage file.new) ≡ true) }
+    ensures why { IfErr result (IsTold D.answers Rename) }
     ensures bytes { D.holds file.new ≡ D.holds file.old }
     ensures placed { OnOk result (D.history disk.new path.now ≡ placed (D.history disk.old path.now) (D.holds file.old)) }
     ensures crash { OnErr result (D.history disk.new path.now ≡ D.history disk.old path.now) }
@@ -248,6 +262,7 @@ fn put_new<D: Disk>(
     requires beside { name.now ≢ path.now }
     ensures ok { OnOk result (D.stage file.new ≡ Placed) }
     ensures err { OnErr result (is_ours (D.stage file.new) ≡ true) }
+    ensures why { IfErr result (λ fault. IsCome D.answers path.now fault ⊎ IsTold D.answers Ask fault ⊎ IsTold D.answers Rename fault ⊎ IsTold D.answers Link fault) }
     ensures bytes { D.holds file.new ≡ D.holds file.old }
     ensures placed { OnOk result (D.history disk.new path.now ≡ placed (D.history disk.old path.now) (D.holds file.old)) }
     ensures crash { OnErr result (D.history disk.new path.now ≡ D.history disk.old path.now) }
@@ -275,6 +290,7 @@ fn rename_new<D: Disk>(
     requires beside { name.now ≢ path.now }
     ensures ok { OnOk result (D.stage file.new ≡ Placed) }
     ensures err { OnErr result (is_ours (D.stage file.new) ≡ true) }
+    ensures why { IfErr result (λ fault. IsCome D.answers path.now fault ⊎ IsTold D.answers Ask fault ⊎ IsTold D.answers Rename fault) }
     ensures bytes { D.holds file.new ≡ D.holds file.old }
     ensures placed { OnOk result (D.history disk.new path.now ≡ placed (D.history disk.old path.now) (D.holds file.old)) }
     ensures crash { OnErr result (D.history disk.new path.now ≡ D.history disk.old path.now) }

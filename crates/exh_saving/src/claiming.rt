@@ -1,9 +1,12 @@
 //! The file beside a path that a save has for itself.
-ghost use Rattle.std.specs.Prelude.{◌≡◌, ◌≢◌, ◌⊎◌, ◌↔◌, IfOk, IfSome, IsTrue, OnErr, OnOk, string_bytes, true};
+ghost use Rattle.std.specs.Prelude.{◌≡◌, ◌≢◌, ◌⊎◌, ◌↔◌, IfErr, IfNone, IfOk, IfSome, IsTrue, OnErr, OnOk, is_some, string_bytes, true};
 ghost use Rattle.std.specs.Option.{option_copied};
+ghost use Rattle.exh_disk.specs.Answer.{IsTold};
+ghost use Rattle.exh_disk.specs.declared.fault.Call.TheVariants.{Empty as EmptyCall, Make};
 ghost use Rattle.exh_disk.specs.declared.stage.Stage.TheVariants.{Empty, Made, OwnLeft};
 ghost use Rattle.exh_disk.specs.History.{SameBut};
 ghost use Rattle.exh_disk.specs.Stage.{asked, is_ours, locked};
+ghost use Rattle.exh_saving.specs.Claimed.{IsClaimed, IsNotOwn, IsOfASave, IsRunner, IsTakenName, IsUnclaimed, IsUnmade, IsUnowned, MayClaim};
 ghost use Rattle.exh_saving.specs.LeftOver.{BeginsAs, IsLeftOver};
 
 use crate::names::{SUFFIXES, name_beside, names_beside};
@@ -28,6 +31,8 @@ pub(crate) fn claim<D: Disk>(
     ensures stage { IfOk result (λ claimed. D.stage claimed.0 ≡ Empty) }
     ensures bytes { IfOk result (λ claimed. D.holds claimed.0 ≡ D.unwritten) }
     ensures beside { IfOk result (λ claimed. string_bytes claimed.1 ≢ path.now) }
+    ensures free { IfOk result (λ claimed. IsClaimed D.answers magic path.now (option_copied old.entry) (string_bytes claimed.1)) }
+    ensures err { IfErr result (IsUnclaimed D.answers) }
     ensures crash { D.history disk.new path.now ≡ D.history disk.old path.now }
 {
     for suffix in SUFFIXES {
@@ -56,6 +61,9 @@ fn claim_name<D: Disk>(
     ensures stage { IfOk result (λ claimed. IfSome claimed (λ file. D.stage file ≡ Empty)) }
     ensures bytes { IfOk result (λ claimed. IfSome claimed (λ file. D.holds file ≡ D.unwritten)) }
     ensures beside { IfOk result (λ claimed. IfSome claimed (λ _. name.now ≢ path.now)) }
+    ensures free { IfOk result (λ claimed. IfSome claimed (λ _. MayClaim D.answers magic (option_copied old.entry) name.now)) }
+    ensures taken { IfOk result (λ claimed. IfNone claimed (IsTakenName D.answers magic path.now (option_copied old.entry) name.now)) }
+    ensures err { IfErr result (IsUnmade D.answers name.now) }
     ensures crash { D.history disk.new path.now ≡ D.history disk.old path.now }
 {
     if name == path {
@@ -63,7 +71,7 @@ fn claim_name<D: Disk>(
     }
     match disk.ask_name(name) {
         Ok(found) => {
-            let runner = disk.runner().ok();
+            let runner = runner_of(disk);
             if is_left_over(&found, runner, old) {
                 take_over(disk, name, path, magic, old)
             } else {
@@ -72,6 +80,17 @@ fn claim_name<D: Disk>(
         }
         Err(error) if error.kind() == ErrorKind::NotFound => Ok(Some(make(disk, name, old)?)),
         Err(error) => Err(DiskFault::at(Call::Make, error)),
+    }
+}
+
+// For whom the program runs, where the system says that.
+fn runner_of<D: Disk>(disk: &mut D) -> Option<Runner>
+    ensures runner { IsRunner D.answers result }
+    ensures crash { D.history disk.new ≡ D.history disk.old }
+{
+    match disk.runner() {
+        Ok(runner) => Some(runner),
+        Err(_) => None,
     }
 }
 
@@ -88,6 +107,7 @@ fn is_left_over(found: &Found, runner: Option<Runner>, old: Option<&Found>) -> b
 fn make<D: Disk>(disk: &mut D, name: &str, old: Option<&Found>) -> Result<D::File, DiskFault>
     ensures stage { IfOk result (λ file. D.stage file ≡ Empty) }
     ensures bytes { IfOk result (λ file. D.holds file ≡ D.unwritten) }
+    ensures err { IfErr result (IsUnmade D.answers name.now) }
     ensures crash { SameBut name.now (D.history disk.old) (D.history disk.new) }
 {
     let mode = if old.is_some() { PRIVATE } else { USUAL };
@@ -112,6 +132,7 @@ fn hold<D: Disk>(disk: &mut D, file: &mut D::File, name: &str) -> Result<(), Dis
     ensures ok { OnOk result (D.stage file.new ≡ Empty) }
     ensures bytes { OnOk result (D.holds file.new ≡ D.unwritten) }
     ensures err { OnErr result (is_ours (D.stage file.new) ≡ true) }
+    ensures why { IfErr result (IsUnmade D.answers name.now) }
     ensures crash { D.history disk.new ≡ D.history disk.old }
 {
     own(disk, file, name)?;
@@ -133,6 +154,8 @@ fn take_over<D: Disk>(
     requires { name.now ≢ path.now }
     ensures stage { IfOk result (λ taken. IfSome taken (λ file. D.stage file ≡ Empty)) }
     ensures bytes { IfOk result (λ taken. IfSome taken (λ file. D.holds file ≡ D.unwritten)) }
+    ensures begins { IfOk result (λ taken. IsOfASave D.answers magic name.now (is_some taken)) }
+    ensures err { IfErr result (IsUnmade D.answers name.now) }
     ensures crash { SameBut name.now (D.history disk.old) (D.history disk.new) }
 {
     let mut file = match disk.take(name, path) {
@@ -159,7 +182,9 @@ fn take_over<D: Disk>(
 
 // Whether a file is empty or begins as a page file, as far as it goes.
 fn is_of_a_save<D: Disk>(disk: &mut D, name: &str, magic: [u8; 8]) -> Result<bool, DiskFault>
-    ensures { D.history disk.new ≡ D.history disk.old }
+    ensures begins { IfOk result (IsOfASave D.answers magic name.now) }
+    ensures err { IfErr result (IsTold D.answers Make) }
+    ensures crash { D.history disk.new ≡ D.history disk.old }
 {
     match disk.head(name) {
         Ok(head) => Ok(begins_as(&head, magic)),
@@ -181,6 +206,7 @@ fn remake<D: Disk>(disk: &mut D, left: &D::File, name: &str) -> Result<D::File, 
     requires { D.stage left.now ≡ OwnLeft }
     ensures stage { IfOk result (λ file. D.stage file ≡ Empty) }
     ensures bytes { IfOk result (λ file. D.holds file ≡ D.unwritten) }
+    ensures err { IfErr result (IsUnmade D.answers name.now) }
     ensures crash { SameBut name.now (D.history disk.old) (D.history disk.new) }
 {
     match disk.remove(left, name) {
@@ -194,6 +220,7 @@ fn clear<D: Disk>(disk: &mut D, left: &mut D::File, name: &str) -> Result<(), Di
     requires { D.stage left.old ≡ OwnLeft }
     ensures stage { OnOk result (D.stage left.new ≡ Empty) }
     ensures bytes { OnOk result (D.holds left.new ≡ D.unwritten) }
+    ensures err { IfErr result (IsTold D.answers EmptyCall) }
     ensures crash { SameBut name.now (D.history disk.old) (D.history disk.new) }
 {
     let cleared = match disk.restrict(left) {
@@ -213,6 +240,7 @@ fn clear<D: Disk>(disk: &mut D, left: &mut D::File, name: &str) -> Result<(), Di
 fn own<D: Disk>(disk: &mut D, file: &mut D::File, name: &str) -> Result<(), DiskFault>
     ensures ok { OnOk result (D.stage file.new ≡ asked (locked (D.stage file.old)) true) }
     ensures err { OnErr result ((D.stage file.new ≡ D.stage file.old) ⊎ (D.stage file.new ≡ locked (D.stage file.old))) }
+    ensures why { IfErr result (IsUnowned D.answers name.now) }
     ensures crash { D.history disk.new ≡ D.history disk.old }
 {
     match disk.lock(file) {
@@ -229,6 +257,7 @@ pub(crate) fn see_own<D: Disk>(
 ) -> Result<(), DiskFault>
     ensures ok { OnOk result (D.stage file.new ≡ asked (D.stage file.old) true) }
     ensures err { OnErr result (D.stage file.new ≡ D.stage file.old) }
+    ensures why { IfErr result (IsNotOwn D.answers name.now) }
     ensures bytes { D.holds file.new ≡ D.holds file.old }
     ensures crash { D.history disk.new ≡ D.history disk.old }
 {

@@ -1,4 +1,5 @@
 ghost use Rattle.std.specs.Prelude.{◌≡◌, IfErr, IsTrue, OnOk};
+ghost use Rattle.exh_disk.specs.Answer.{Runs};
 ghost use Rattle.exh_disk.specs.Found.{IsClosedTo};
 ghost use Rattle.exh_disk.specs.declared.found.Runner.{Runner};
 ghost use Rattle.exh_saving.specs.Refused.{IsFolderRefused, IsRefused};
@@ -48,7 +49,7 @@ fn look_at_folder<D: Disk>(disk: &mut D, folder: &str) -> Result<(), DiskFault>
 
 // Whether a folder is surely closed to whom the program runs for.
 fn is_closed<D: Disk>(disk: &mut D, folder: &Found) -> bool
-    ensures closed { IsTrue result → (runner : Runner) × IsClosedTo folder.now runner }
+    ensures closed { IsTrue result → (runner : Runner) × D.answers (Runs runner) × IsClosedTo folder.now runner }
     ensures crash { D.history disk.new ≡ D.history disk.old }
 {
     match disk.runner() {

@@ -1,8 +1,9 @@
 //! The file that a save replaces, under its lock.
-ghost use Rattle.std.specs.Prelude.{◌≡◌, ◌≢◌, IfOk, IfSome, OnOk, true};
+ghost use Rattle.std.specs.Prelude.{◌≡◌, ◌≢◌, IfErr, IfOk, OnOk, true};
 ghost use Rattle.std.specs.Option.{option_map};
-ghost use Rattle.exh_disk.specs.Seen.{MayReplace};
-ghost use Rattle.exh_saving.specs.Replaced.{IsFree};
+ghost use Rattle.exh_disk.specs.declared.fault.DiskFault.TheVariants.{Memory};
+ghost use Rattle.exh_saving.specs.Replaced.{MayTake};
+ghost use Rattle.exh_saving.specs.Unsaved.{IsMoved, IsOldUnheld, IsUnheld};
 
 use crate::Target;
 use crate::names::{SUFFIXES, name_beside};
@@ -25,8 +26,8 @@ pub(crate) fn hold_old<D: Disk>(
     path: &str,
     target: &Target<'_, D::Opened>,
 ) -> Result<Option<Old<D::Held>>, DiskFault>
-    ensures ok { IfOk result (λ old. IfSome target.now.seen (λ seen. MayReplace D.finds seen.now target.now.path.now path.now (option_map (λ held. held.found) old))) }
-    ensures free { OnOk result (IsFree D.answers D.finds target.now.magic target.now.path.now target.now.seen path.now) }
+    ensures free { IfOk result (λ old. MayTake D.answers D.finds target.now.magic target.now.path.now target.now.seen path.now (option_map (λ held. held.found) old)) }
+    ensures err { IfErr result (IsOldUnheld D.answers target.now.magic target.now.seen path.now) }
     ensures crash { D.history disk.new ≡ D.history disk.old }
 {
     let Some(found) = old_at(disk, path, target)? else {
@@ -41,7 +42,8 @@ pub(crate) fn hold_old<D: Disk>(
 
 // Opens and locks a file that the run hasn't opened.
 fn hold_path<D: Disk>(disk: &mut D, path: &str) -> Result<D::Held, DiskFault>
-    ensures { D.history disk.new ≡ D.history disk.old }
+    ensures err { IfErr result (IsUnheld D.answers) }
+    ensures crash { D.history disk.new ≡ D.history disk.old }
 {
     match disk.open_old(path) {
         Ok(opened) => hold(disk, &opened),
@@ -59,6 +61,8 @@ pub(crate) fn see_held<D: Disk>(
 ) -> Result<(), DiskFault>
     ensures leads { OnOk result (D.leads named.now path.now) }
     ensures stands { OnOk result (D.stands old.new.held path.now ≡ true) }
+    ensures found { old.new.found ≡ old.old.found }
+    ensures err { IfErr result (IsMoved D.leads D.answers named.now path.now) }
     ensures crash { D.history disk.new ≡ D.history disk.old }
 {
     if !leads_to(alloc, disk, named, path)? {
@@ -80,7 +84,8 @@ pub(crate) fn clear_names<D: Disk>(
     path: &str,
     old: &Old<D::Held>,
 ) -> Result<(), DiskFault>
-    ensures { D.history disk.new path.now ≡ D.history disk.old path.now }
+    ensures err { IfErr result (λ fault. fault ≡ Memory) }
+    ensures crash { D.history disk.new path.now ≡ D.history disk.old path.now }
 {
     if old.found.links == 1 {
         return Ok(());

@@ -2,7 +2,7 @@ ghost use Rattle.std.specs.Prelude.{◌≡◌, IfErr, IfOk, IfSome, MatchOption,
 ghost use Rattle.exh_disk.specs.Answer.{IsTold, Leads, Named, Unnamed};
 ghost use Rattle.exh_disk.specs.Seen.{MayReplace};
 ghost use Rattle.exh_disk.specs.declared.fault.Call.TheVariants.{Ask};
-ghost use Rattle.exh_saving.specs.Refused.{IsFileRefused, IsNameRefused, IsOldRefused, IsPathRefused};
+ghost use Rattle.exh_saving.specs.Refused.{IsFileRefused, IsNameRefused, IsOldRefused, IsPathRefused, IsUnfound};
 ghost use Rattle.exh_saving.specs.Replaced.{IsFree, IsReplaceable, IsReplaceableFile};
 ghost use Rattle.exh_saving.specs.Saved.{Reaches};
 
@@ -59,6 +59,7 @@ fn path_to_found<D: Disk>(
 
 // Of a path that leads to nothing. A link that leads nowhere would be replaced; what else has the name came meanwhile.
 fn new_path<D: Disk>(alloc: Global, disk: &mut D, path: &str) -> Result<PathTo, DiskFault>
+    requires { IsUnfound D.answers }
     ensures reaches { IfOk result (Reaches D.leads D.answers path.now) }
     ensures err { IfErr result (IsPathRefused D.answers path.now) }
     ensures crash { D.history disk.new ≡ D.history disk.old }

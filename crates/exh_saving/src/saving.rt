@@ -1,9 +1,10 @@
 //! A save.
-ghost use Rattle.std.specs.Prelude.{◌≡◌, ◌⊎◌, ℕ, IfNone, IfOk, IfSome, IsSome, List, None, OnErr, OnOk};
+ghost use Rattle.std.specs.Prelude.{◌≡◌, ◌⊎◌, ℕ, IfErr, IfNone, IfOk, IfSome, IsSome, List, None, OnErr, OnOk};
 ghost use Rattle.std.specs.Io.KnownBytes.{Appends};
 ghost use Rattle.exh_disk.specs.declared.stage.Stage.TheVariants.{Settled};
-ghost use Rattle.exh_saving.specs.Replaced.{IsFree, LeadsToDevice};
-ghost use Rattle.exh_saving.specs.Saved.{IsSaved, SavesAt};
+ghost use Rattle.exh_saving.specs.Replaced.{LeadsToDevice};
+ghost use Rattle.exh_saving.specs.Saved.{IsSaved, IsWrittenTo, SavesAt};
+ghost use Rattle.exh_saving.specs.Unsaved.{IsDeviceUnwritten, IsSaveRefused, IsUnsaved, MayPlace};
 
 use crate::beside::save_beside;
 use crate::path::{PathTo, path_to};
@@ -39,13 +40,15 @@ pub fn save<D: Disk, S: Source, V: Watch>(
 ) -> (Result<Saved<D::File>, DiskFault>, S)
     ensures bytes { IfOk result.0 (λ saved. IfSome saved.file (λ file. Appends D.unwritten (D.holds file) (S.bytes source))) }
     ensures settled { IfOk result.0 (λ saved. IfSome saved.file (λ file. D.stage file ≡ Settled)) }
-    ensures device { IfOk result.0 (λ saved. IfNone saved.file (LeadsToDevice D.answers target.now.path.now)) }
+    ensures device { IfOk result.0 (λ saved. IfNone saved.file (LeadsToDevice D.answers target.now.path.now × IsWrittenTo D.Device.contents (S.bytes source))) }
+    ensures err { IfErr result.0 (IsSaveRefused D.leads D.answers D.finds (S.fails source) target.now.magic target.now.path.now target.now.seen) }
+    ensures wrote { OnOk result.0 (S.leaves source result.1) }
     ensures source { (result.1 ≡ source) ⊎ S.leaves source result.1 }
     // At each moment of the call a crash leaves at the path, without links, what it could leave there before, or the new file.
     // A file comes there only where nothing is, or what may be replaced.
     ensures crash { (whole : List ℕ) × ((whole ≡ target.now.path.now) ⊎ D.leads target.now.path.now whole)
         × SavesAt (D.history disk.old whole) (D.history disk.new whole) D.holds (IsSaved D.unwritten (S.bytes source)) result.0
-        × IfOk result.0 (λ saved. IfSome saved.file (λ _. IsFree D.answers D.finds target.now.magic target.now.path.now target.now.seen whole)) }
+        × IfOk result.0 (λ saved. IfSome saved.file (λ _. MayPlace D.answers D.finds target.now.magic target.now.path.now target.now.seen whole)) }
 {
     match path_to(alloc, disk, target.path) {
         Ok(PathTo::File(path)) => save_file(alloc, disk, &path, target, source, watch),
@@ -66,7 +69,9 @@ fn save_file<D: Disk, S: Source, V: Watch>(
     ensures bytes { IfOk result.0 (λ saved. IfSome saved.file (λ file. Appends D.unwritten (D.holds file) (S.bytes source))) }
     ensures settled { IfOk result.0 (λ saved. IfSome saved.file (λ file. D.stage file ≡ Settled)) }
     ensures written { IfOk result.0 (λ saved. IsSome saved.file) }
-    ensures free { OnOk result.0 (IsFree D.answers D.finds target.now.magic target.now.path.now target.now.seen path.now) }
+    ensures free { OnOk result.0 (MayPlace D.answers D.finds target.now.magic target.now.path.now target.now.seen path.now) }
+    ensures err { IfErr result.0 (IsUnsaved D.leads D.answers D.finds (S.fails source) target.now.magic target.now.path.now target.now.seen path.now) }
+    ensures wrote { OnOk result.0 (S.leaves source result.1) }
     ensures source { (result.1 ≡ source) ⊎ S.leaves source result.1 }
     ensures crash { SavesAt (D.history disk.old path.now) (D.history disk.new path.now) D.holds (IsSaved D.unwritten (S.bytes source)) result.0 }
 {
@@ -91,6 +96,9 @@ fn save_to_device<D: Disk, S: Source, V: Watch>(
     watch: &V,
 ) -> (Result<Saved<D::File>, DiskFault>, S)
     ensures file { IfOk result.0 (λ saved. saved.file ≡ None) }
+    ensures bytes { OnOk result.0 (IsWrittenTo D.Device.contents (S.bytes source)) }
+    ensures err { IfErr result.0 (IsDeviceUnwritten D.answers (S.fails source) path.now) }
+    ensures wrote { OnOk result.0 (S.leaves source result.1) }
     ensures source { (result.1 ≡ source) ⊎ S.leaves source result.1 }
     ensures crash { D.history disk.new ≡ D.history disk.old }
 {

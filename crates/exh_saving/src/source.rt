@@ -1,6 +1,7 @@
 //! What is saved.
-ghost use Rattle.std.specs.Prelude.{ℕ, List, OnOk};
+ghost use Rattle.std.specs.Prelude.{ℕ, IfErr, List, OnOk};
 ghost use Rattle.std.specs.Io.KnownBytes.{Appends};
+ghost use Rattle.exh_saving.specs.declared.source.SourceFault.{SourceFault};
 
 use std::io::Write;
 use thiserror::Error;
@@ -9,6 +10,9 @@ use thiserror::Error;
 pub trait Source: Drop {
     /// What writing leaves of it.
     ghost leaves: { Self → Self → Type 0 };
+
+    /// Why writing may not give all.
+    ghost fails: { Self → SourceFault → Type 0 };
 
     /// The bytes that writing gives.
     ghost bytes: { Self → List ℕ };
@@ -19,6 +23,7 @@ pub trait Source: Drop {
     /// out of reach.
     fn write_to<W: Write>(self, writer: &mut W) -> (Result<(), SourceFault>, Self)
         ensures leaves { leaves self result.1 }
+        ensures fails { IfErr result.0 (fails self) }
         ensures written { OnOk result.0 (Appends (W.contents writer.old) (W.contents writer.new) (bytes self)) };
 }
 

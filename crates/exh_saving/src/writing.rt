@@ -1,5 +1,6 @@
-ghost use Rattle.std.specs.Prelude.{OnOk};
+ghost use Rattle.std.specs.Prelude.{IfErr, OnOk};
 ghost use Rattle.std.specs.Io.KnownBytes.{Appends};
+ghost use Rattle.exh_saving.specs.Unsaved.{IsUnwritten};
 
 use crate::fault_keeper::FaultKeeper;
 use crate::{Source, SourceFault, Watch};
@@ -14,6 +15,7 @@ pub(crate) fn write_source<W: Write + Drop, S: Source, V: Watch>(
     watch: &V,
 ) -> (Result<(), DiskFault>, S, W)
     ensures leaves { S.leaves source result.1 }
+    ensures err { IfErr result.0 (IsUnwritten (S.fails source)) }
     ensures written { OnOk result.0 (Appends (W.contents writer) (W.contents result.2) (S.bytes source)) }
 {
     let mut keeper = FaultKeeper::new(writer, watch);

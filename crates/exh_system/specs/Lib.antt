@@ -1,1 +1,4 @@
+pub mod Fault
+pub mod Fit
+pub mod Front
 pub mod SizeLimit

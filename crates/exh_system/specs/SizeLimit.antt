@@ -1,11 +1,13 @@
 -- The limit on the size of a file that a text of the system's tells, and how long a page file is.
-use Rattle.std.specs.Prelude.{ℕ, ◌+◌, List, [], ◌∷◌, codes, drop, length, nat_eq, cond, Option, None}
+use Rattle.std.specs.Prelude.{◌≡◌, ◌<◌, ◌*◌, ℕ, ◌+◌, Bool, true, false, List, [], ◌∷◌, codes, drop, length, nat_eq, cond, Option, None}
 use Rattle.std.specs.List.{starts_with, sum}
 use Rattle.exh_text.specs.TextLines.{is_empty, newline, parts_at, space}
 use Rattle.exh_text.specs.Numbers.{index_spelled}
 use Rattle.exh_format.specs.declared.header.Header.{Header}
 use Rattle.exh_format.specs.PageFile.{table_blocks}
 use Rattle.exh_cells.specs.Places.{end_block_of}
+use Rattle.exh_codec.specs.declared.block.TheConstants.{BLOCK_LEN}
+use Rattle.exh_system.specs.declared.size_limit.AboveLimit.{AboveLimit}
 
 -- the first word that isn't empty, or an empty one
 abbrev pub first_full : List (List ℕ) → List ℕ
@@ -31,3 +33,13 @@ blocks_told header = 1 + (sum header.page_counts + table_blocks header.entry_cou
 -- those of one of version 3: the header, the pages, and a walk block for each group of them
 abbrev pub placed_blocks : Header → ℕ
 placed_blocks header = end_block_of (sum header.page_counts)
+
+-- how many bytes a page file of this header has, of version 3 or of the version that is written
+abbrev pub len_told : Header → Bool → ℕ
+len_told header true = BLOCK_LEN * placed_blocks header
+len_told header false = BLOCK_LEN * blocks_told header
+
+-- it has so many bytes, and they are more than the limit
+pub record IsAbove (header : Header) (is_placed : Bool) (above : AboveLimit) : Type 0 where
+  pub size : above.size ≡ len_told header is_placed
+  pub more : above.limit < above.size

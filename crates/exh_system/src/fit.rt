@@ -1,8 +1,11 @@
 //! What is asked of a page file before its log is opened.
+ghost use Rattle.std.specs.Prelude.{IfErr, OnOk};
+ghost use Rattle.exh_system.specs.Fit.{HasShortName, IsUnfit};
 
 use crate::page_log::tells_of_none;
 use crate::{InPlaceFault, PageLog};
 use exh_codec::BLOCK_LEN;
+use exh_disk::file_name_of;
 use std::fs::File;
 use std::io::ErrorKind;
 use std::os::unix::fs::MetadataExt;
@@ -30,7 +33,10 @@ pub fn is_at(rt: &HostRuntime, file: &File, whole: &str) -> io::Result<bool> {
 /// may end amid a block, as the power may fail while the log is copied.
 ///
 /// `PartOfBlock`, `SecondName`, `LongName`, `Journal`: as they say. `System`: the system doesn't say what is there.
-pub fn see_fit(rt: &HostRuntime, file: &File, whole: &str) -> Result<(), InPlaceFault> {
+pub fn see_fit(rt: &HostRuntime, file: &File, whole: &str) -> Result<(), InPlaceFault>
+    ensures ok { OnOk result (HasShortName whole.now) }
+    ensures err { IfErr result (IsUnfit whole.now) }
+{
     let about = file.metadata()?;
     if about.len() % BLOCK_LEN as u64 != 0 && !PageLog::of(rt, whole)?.has_change(rt)? {
         return Err(InPlaceFault::PartOfBlock);
@@ -38,20 +44,12 @@ pub fn see_fit(rt: &HostRuntime, file: &File, whole: &str) -> Result<(), InPlace
     if about.nlink() != 1 {
         return Err(InPlaceFault::SecondName);
     }
-    if name_of(whole).len() > NAME_LIMIT {
+    if file_name_of(whole).len() > NAME_LIMIT {
         return Err(InPlaceFault::LongName);
     }
     match fs::symlink_metadata(rt, format!(in rt.alloc(); "{whole}-journal")?.as_str()) {
         Ok(_) => Err(InPlaceFault::Journal),
         Err(error) if tells_of_none(&error) => Ok(()),
         Err(error) => Err(InPlaceFault::System(error)),
-    }
-}
-
-// What stands behind the last slash.
-fn name_of(whole: &str) -> &str {
-    match whole.rsplit_once('/') {
-        Some((_, name)) => name,
-        None => whole,
     }
 }

@@ -1,4 +1,8 @@
 //! What the first bytes of a page file say.
+ghost use Rattle.std.specs.Prelude.{◌↔◌, IfNone, IfSome, IsTrue};
+ghost use Rattle.exh_format.specs.HeaderTests.{HasMagic, IsOfVersion};
+ghost use Rattle.exh_cells.specs.StampedHeader.{placed_format};
+ghost use Rattle.exh_system.specs.Front.{IsFront};
 
 use byteorder::{BigEndian, ByteOrder};
 use std::fs::File;
@@ -41,12 +45,27 @@ pub fn front_of(file: &File) -> io::Result<Option<Front>> {
 }
 
 // The stamps in the first bytes of a header of version 3.
-fn front_in(bytes: &[u8; FRONT_LEN]) -> Option<Front> {
-    if bytes[..8] != MAGIC[..] || BigEndian::read_u16(&bytes[8..]) != PLACED_NUMBER {
+fn front_in(bytes: &[u8; FRONT_LEN]) -> Option<Front>
+    ensures some { IfSome result (IsFront bytes.now) }
+    ensures none { IfNone result (HasMagic bytes.now → IsOfVersion placed_format bytes.now → ⊥) }
+{
+    if !has_magic(bytes) || !is_placed(bytes) {
         return None;
     }
     Some(Front {
         stamp: BigEndian::read_u64(&bytes[84..]),
         before: BigEndian::read_u64(&bytes[92..]),
     })
+}
+
+fn has_magic(bytes: &[u8; FRONT_LEN]) -> bool
+    ensures { IsTrue result ↔ HasMagic bytes.now }
+{
+    bytes[..8] == MAGIC[..]
+}
+
+fn is_placed(bytes: &[u8; FRONT_LEN]) -> bool
+    ensures { IsTrue result ↔ IsOfVersion placed_format bytes.now }
+{
+    BigEndian::read_u16(&bytes[8..]) == PLACED_NUMBER
 }

@@ -1,3 +1,7 @@
+ghost use Rattle.std.specs.Prelude.{◌≡◌};
+ghost use Rattle.exh_system.specs.Fault.{IsFaultOf};
+ghost use Rattle.exh_system.specs.declared.in_place_fault.InPlaceFault.TheVariants.{Memory};
+
 use std::alloc::AllocError;
 use std::io;
 use thiserror::Error;
@@ -41,6 +45,8 @@ pub enum InPlaceFault {
 }
 
 impl From<io::Error> for InPlaceFault {
+    ghost from_gives = { IsFaultOf };
+
     fn from(error: io::Error) -> InPlaceFault {
         match error.kind() {
             io::ErrorKind::OutOfMemory => InPlaceFault::Memory,
@@ -50,6 +56,8 @@ impl From<io::Error> for InPlaceFault {
 }
 
 impl From<AllocError> for InPlaceFault {
+    ghost from_gives = { λ _ fault. fault ≡ Memory };
+
     fn from(_error: AllocError) -> InPlaceFault {
         InPlaceFault::Memory
     }

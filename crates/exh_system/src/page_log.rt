@@ -1,4 +1,8 @@
 //! The log of a page file, which stands beside it during a change and behind a crash.
+ghost use Rattle.std.specs.Prelude.{◌≡◌, ◌++◌, ◌↔◌, IfErr, IfOk, IsTrue, codes, string_bytes};
+ghost use Rattle.std.specs.IoError.{error_kind};
+ghost use Rattle.std.specs.declared.io.ErrorKind.TheVariants.{OutOfMemory};
+ghost use Rattle.exh_system.specs.Fault.{TellsOfNone};
 
 use std::io::ErrorKind;
 use std::{fs, io};
@@ -16,12 +20,17 @@ impl PageLog {
     /// That of the page file of a path without links, whether it is there or not.
     ///
     /// An error: memory ran out.
-    pub fn of(rt: &HostRuntime, whole: &str) -> io::Result<PageLog> {
+    pub fn of(rt: &HostRuntime, whole: &str) -> io::Result<PageLog>
+        ensures path { IfOk result (λ log. string_bytes log.path ≡ whole.now ++ codes "-wal") }
+        ensures err { IfErr result (λ error. error_kind error ≡ OutOfMemory) }
+    {
         let path = format!(in rt.alloc(); "{whole}-wal")?;
         Ok(PageLog { path })
     }
 
-    pub fn path(&self) -> &str {
+    pub fn path(&self) -> &str
+        ensures { result.now ≡ string_bytes self.now.path }
+    {
         &self.path
     }
 
@@ -48,7 +57,9 @@ impl PageLog {
 }
 
 /// Whether an error of the system tells that nothing is under a name: it is free, or too long for any file.
-pub(crate) fn tells_of_none(error: &io::Error) -> bool {
+pub(crate) fn tells_of_none(error: &io::Error) -> bool
+    ensures { IsTrue result ↔ TellsOfNone error.now }
+{
     matches!(
         error.kind(),
         ErrorKind::NotFound | ErrorKind::InvalidFilename

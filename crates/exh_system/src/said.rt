@@ -1,4 +1,5 @@
 //! What the program says on standard error of a run.
+ghost use Rattle.std.specs.Prelude.{◌≡◌};
 
 use exh_notes::Escaped;
 use std::cell::Cell;
@@ -11,7 +12,9 @@ pub const INPUT: &str = "standard input";
 pub type Reason = Cell<Option<io::Error>>;
 
 /// What came of opening something; where it is an error, that becomes the reason.
-pub fn with_reason<T>(opened: io::Result<T>, reason: &Reason) -> io::Result<T> {
+pub fn with_reason<T>(opened: io::Result<T>, reason: &Reason) -> io::Result<T>
+    ensures { result ≡ opened }
+{
     if let Err(error) = &opened {
         reason.set(Some(*error));
     }

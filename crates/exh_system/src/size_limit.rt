@@ -1,8 +1,8 @@
 //! The system's limit on the size of a file, which a save must not come to.
-ghost use Rattle.std.specs.Prelude.{◌≡◌, ◌≤◌, ◌*◌, ◌^◌};
+ghost use Rattle.std.specs.Prelude.{◌≡◌, ◌≤◌, ◌*◌, ◌^◌, IfNone, IfSome};
 ghost use Rattle.std.specs.List.{sum};
 ghost use Rattle.exh_codec.specs.declared.block.TheConstants.{BLOCK_LEN};
-ghost use Rattle.exh_system.specs.SizeLimit.{blocks_told, first_word, limit_told, placed_blocks};
+ghost use Rattle.exh_system.specs.SizeLimit.{IsAbove, blocks_told, first_word, len_told, limit_told, placed_blocks};
 
 use exh_cells::GROUP_PAGES;
 use exh_codec::BLOCK_LEN;
@@ -37,14 +37,29 @@ pub fn above_limit(
     path: &str,
     header: &Header,
     is_placed: bool,
-) -> Option<AboveLimit> {
+) -> Option<AboveLimit>
+    ensures { IfSome result (IsAbove header.now is_placed) }
+{
     let limit = limit_told(&limits(rt).ok()?)?;
+    let above = above(limit, header, is_placed)?;
+    if is_no_regular(rt, path) {
+        None
+    } else {
+        Some(above)
+    }
+}
+
+// Whether the page file of a header would be above a limit.
+fn above(limit: u64, header: &Header, is_placed: bool) -> Option<AboveLimit>
+    ensures some { IfSome result (λ above. IsAbove header.now is_placed above × (above.limit ≡ limit)) }
+    ensures none { IfNone result (len_told header.now is_placed ≤ limit) }
+{
     let size = if is_placed {
         placed_len(header)
     } else {
         file_len(header)
     };
-    if size > limit && !is_no_regular(rt, path) {
+    if size > limit {
         Some(AboveLimit { size, limit })
     } else {
         None

@@ -1,6 +1,7 @@
-use Rattle.std.proofs.Common.{◌≡◌, inl, refl, Err}
+use Rattle.std.proofs.Common.{◌≡◌, ◌⊎◌, inl, inr, refl, Err}
+use Rattle.exh_saving.proofs.Handed.{on_fault}
 use Rattle.exh_saving.proofs.Moments.{stays_at}
-use Rattle.exh_saving.proofs.NoFile.{at_no_file, where_none, where_written}
+use Rattle.exh_saving.proofs.NoFile.{at_no_file, where_done, where_none, where_written}
 use Rattle.exh_saving.proofs.saving.save.Goals as goal
 
 -- what stands at the path that was named stays there
@@ -18,7 +19,22 @@ returns-in-Err-clause-crash g c =
 
 -- a device was written, or a file
 pub returns-in-Ok-Device-clause-device : goal.returns-in-Ok-Device-clause-device
-returns-in-Ok-Device-clause-device g c = where_none c.save_to_device.result.0 _ (rw c.in-Ok-Device.field-0-is at c.in-Ok-Device.ensures.reaches)
+returns-in-Ok-Device-clause-device g c = where_none c.save_to_device.result.0 _ _ (rw c.in-Ok-Device.field-0-is at c.in-Ok-Device.ensures.reaches) c.save_to_device.ensures.bytes
 
 pub returns-in-Ok-File-clause-device : goal.returns-in-Ok-File-clause-device
 returns-in-Ok-File-clause-device g c = where_written c.save_file.result.0 _ c.save_file.ensures.written
+
+-- what was saved is where the path leads
+pub returns-in-Ok-File-clause-err : goal.returns-in-Ok-File-clause-err
+returns-in-Ok-File-clause-err g c =
+    let whole = c.deref.result.now in
+    let reached : (whole ≡ c.args.target.now.path.now) ⊎ g.D.Disk.leads c.args.target.now.path.now whole =
+    rw c.deref.ensures (rw c.in-Ok-File.field-0-is at c.in-Ok-File.ensures.reaches) in
+    on_fault c.save_file.result.0 _ _ (λ fault unsaved. inr (inl (whole, reached, unsaved))) c.save_file.ensures.err
+
+pub returns-in-Ok-File-clause-crash : goal.returns-in-Ok-File-clause-crash
+returns-in-Ok-File-clause-crash g c =
+    let whole = c.deref.result.now in
+    let reached : (whole ≡ c.args.target.now.path.now) ⊎ g.D.Disk.leads c.args.target.now.path.now whole =
+    rw c.deref.ensures (rw c.in-Ok-File.field-0-is at c.in-Ok-File.ensures.reaches) in
+    (whole, reached, rw c.path_to.ensures.crash at c.save_file.ensures.crash, where_done c.save_file.result.0 _ c.save_file.ensures.free)

@@ -1,0 +1,2 @@
+-- for the stamps of a file's first bytes
+pub mod Numbers
