@@ -1,7 +1,7 @@
 //! The help of `compact`.
 
 /// What it does, in a line.
-pub const ABOUT: &str = "Makes a page file anew with as few pages as its pairs take";
+pub const ABOUT: &str = "Makes a page file anew with the pages that its pairs need";
 
 /// How it is used.
 pub const USAGE: &str = "exhash compact PATH [--cap N] [--wards N] [--keyer K]

@@ -1,7 +1,7 @@
 //! The help of `stats`.
 
 /// What it does, in a line.
-pub const ABOUT: &str = "Prints how many records and pages a page file has, and how full they are";
+pub const ABOUT: &str = "Tells how many records and pages a page file has";
 
 /// How it is used.
 pub const USAGE: &str = "exhash stats PATH [--json] [--wait SECONDS]
