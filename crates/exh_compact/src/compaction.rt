@@ -1,0 +1,78 @@
+//! A page file at a path that is made anew of its pairs.
+
+use crate::{CompactOptions, Compacted, compact_map};
+use exh_file::Opened;
+use exh_frames::FileStore;
+use exh_map::{FileMap, StoreError};
+use exh_page::Key;
+use exhash::HeldFile;
+
+/// What came of making a page file anew.
+#[derive(Drop)]
+pub enum CompactOutcome {
+    /// The new file is in the place of the old one.
+    Done(CompactCounts),
+    /// These keys, in the order of the pages, find no room in it. The file is as it was.
+    Full(Vec<Key>),
+}
+
+/// How much was made anew.
+#[derive(Clone, Copy, Debug, PartialEq, Eq)]
+pub struct CompactCounts {
+    /// How many pairs there are.
+    pub records: u64,
+    /// How many pages the file had, live and forwarding ones.
+    pub pages_before: u64,
+    /// How many it has.
+    pub pages_after: u64,
+}
+
+/// Makes the page file of a path anew of its pairs, under the writers' lock, for which it waits so many seconds: of version
+/// 3, in its own settings or in others, with as few pages as the pairs need. A change that another process didn't finish is
+/// recovered before. It takes memory for the file's pages, for its pairs, and for the new pages.
+///
+/// `Settings`: those asked for are no file's. `Absent`: nothing is there, or an empty file. `Busy`: another process has the
+/// lock. `AboveLimit`: the new file would be longer than the system lets it be. `Unsynchronized`: it is saved, but a power
+/// failure may take it back. Others: nothing was changed, as they say.
+pub fn compact(
+    rt: &HostRuntime,
+    path: &str,
+    options: &CompactOptions,
+    seconds: u64,
+) -> Result<CompactOutcome, StoreError> {
+    let (file, opened) = HeldFile::open(rt, path, seconds)?;
+    let settings = options.over(opened.settings());
+    let pages_before = page_count(&opened);
+    let mut map = FileMap::new(opened);
+    match compact_map(rt.alloc(), &mut map, settings)? {
+        Compacted::Wards { wards, records } => {
+            let counts = CompactCounts {
+                records: records as u64,
+                pages_before,
+                pages_after: page_count(&wards),
+            };
+            replaced(rt, file, wards, counts)
+        }
+        Compacted::Full(keys) => Ok(CompactOutcome::Full(keys)),
+    }
+}
+
+// Puts a new file of wards in the place of one, and answers these counts.
+fn replaced(
+    rt: &HostRuntime,
+    file: HeldFile,
+    wards: Opened<FileStore>,
+    counts: CompactCounts,
+) -> Result<CompactOutcome, StoreError> {
+    file.replace(rt, wards)?;
+    Ok(CompactOutcome::Done(counts))
+}
+
+// How many pages wards have.
+fn page_count(opened: &Opened<FileStore>) -> u64 {
+    let mut count = 0u64;
+    for ward in opened.wards() {
+        count = count.saturating_add(u64::from(ward.page_count()));
+    }
+    count
+}

@@ -1,0 +1,86 @@
+ghost use Rattle.std.specs.Prelude.{◌≡◌, IfOk};
+ghost use Rattle.exh_stats.specs.Stats.{AreStatsOf};
+
+use crate::WardCounts;
+use crate::counting::{
+    by_bits, by_records, byte_count, forward_count, full_limit_count, limit_count, live_count,
+    longest, record_count,
+};
+use crate::gathering::gathered;
+use exh_codec::BLOCK_LEN;
+use exh_file::Opened;
+use exh_keyer::AnyKeyer;
+use exh_prefix::Prefix;
+use exh_settings::FileSettings;
+use exh_stores::Pages;
+use exh_ward::WardFault;
+use std::alloc::Global;
+
+/// How many numbers of records a page may have: 0 to 16.
+pub const RECORD_COUNTS: usize = 17;
+
+/// How many lengths a prefix may have: 0 to `LIMIT`.
+pub const BIT_COUNTS: usize = 21;
+
+/// How much a page file has.
+#[derive(Drop)]
+pub struct Stats {
+    /// Its version: 1, 2 or 3.
+    pub version: u8,
+    pub settings: FileSettings<AnyKeyer>,
+    pub records: u64,
+    /// How many live pages it has, and how many forwarding ones.
+    pub live: u64,
+    pub forwarding: u64,
+    /// How many live pages have so many records: none, one, and so on up to 16.
+    pub by_records: [u64; RECORD_COUNTS],
+    /// How many live pages have a prefix of so many bits: none, one, and so on up to `LIMIT`.
+    pub by_bits: [u64; BIT_COUNTS],
+    /// The first of the longest prefixes; its length is the file's depth.
+    pub longest: Prefix,
+    /// How many live pages have a prefix of `LIMIT` bits, so that they can't be split, and how many of these are full.
+    pub at_limit: u64,
+    pub full_at_limit: u64,
+    /// How many bytes of the pages' blocks the records take.
+    pub record_bytes: u64,
+    /// How much each part of the file has, in the order of their numbers.
+    pub wards: Vec<WardCounts>,
+}
+
+impl Stats {
+    /// How many bytes the blocks of all pages have, 4,096 each.
+    pub fn page_bytes(&self) -> u64 {
+        let pages = self.live.saturating_add(self.forwarding);
+        pages.saturating_mul(BLOCK_LEN as u64)
+    }
+}
+
+/// How much the file of these wards has, which is of this version. It takes memory for some bytes a page.
+///
+/// `Memory`: a growth was refused. `Page`: a page is out of reach.
+pub fn stats_of<P: Pages + Drop>(
+    alloc: Global,
+    version: u8,
+    opened: Opened<P>,
+) -> Result<Stats, WardFault>
+    ensures { IfOk result (AreStatsOf version opened) }
+{
+    let settings = opened.settings();
+    let mut wards = opened.into_wards();
+    let gathered = gathered(alloc, &mut wards)?;
+    let shapes = gathered.shapes.as_slice();
+    Ok(Stats {
+        version,
+        settings,
+        records: record_count(shapes),
+        live: live_count(shapes),
+        forwarding: forward_count(shapes),
+        by_records: by_records(shapes),
+        by_bits: by_bits(shapes),
+        longest: longest(shapes),
+        at_limit: limit_count(shapes),
+        full_at_limit: full_limit_count(settings.cap, shapes),
+        record_bytes: byte_count(shapes),
+        wards: gathered.wards,
+    })
+}
