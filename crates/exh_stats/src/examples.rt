@@ -117,7 +117,7 @@ fn a_forwarding_page_is_counted(rt: HostRuntime) -> Result<(), Fail> {
 }
 
 #[test]
-fn two_parts_are_counted(rt: HostRuntime) -> Result<(), Fail> {
+fn two_wards_are_counted(rt: HostRuntime) -> Result<(), Fail> {
     let stats = stats_of(rt.alloc(), 3, three_keys(rt.alloc(), 1)?)?;
     let expected = [
         WardCounts {

@@ -43,7 +43,7 @@ pub struct Stats {
     pub full_at_limit: u64,
     /// How many bytes of the pages' blocks the records take.
     pub record_bytes: u64,
-    /// How much each part of the file has, in the order of their numbers.
+    /// How much each ward has, in the order of their numbers.
     pub wards: Vec<WardCounts>,
 }
 

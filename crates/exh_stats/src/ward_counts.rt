@@ -4,7 +4,7 @@ ghost use Rattle.exh_stats.specs.Stats.{ward_counts_of};
 use crate::PageShape;
 use crate::counting::record_count;
 
-/// How much a part of a file has.
+/// How much a ward has.
 #[derive(Clone, Copy, Debug, PartialEq, Eq)]
 pub struct WardCounts {
     /// How many pages, live and forwarding ones.
