@@ -3,12 +3,12 @@
 #![tactic(auto)]
 
 pub use compacting::compact;
+pub use counting::stats;
 pub use exporting::export;
 pub use importing::import;
-pub use stats::stats;
 
 mod compacting;
+mod counting;
 mod exporting;
 mod importing;
 mod rejected;
-mod stats;

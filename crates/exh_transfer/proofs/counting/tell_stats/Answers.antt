@@ -1,5 +1,5 @@
 use Rattle.exh_transfer.proofs.Told.{told}
-use Rattle.exh_transfer.proofs.stats.tell_stats.Goals as goal
+use Rattle.exh_transfer.proofs.counting.tell_stats.Goals as goal
 
 pub returns-clause-ends : goal.returns-clause-ends
 returns-clause-ends g c = told (λ text. text.items) _ _ _ c.text.result _ c.tell_text.ensures.told
