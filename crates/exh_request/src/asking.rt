@@ -10,7 +10,8 @@ use crate::line::{Line, Placed};
 use crate::options::Options;
 use crate::word::is_word;
 use crate::{
-    Action, EverydayCommand, ImportWords, Keys, NewValue, Place, Request, RequestFault, WrongCause, WrongRequest,
+    Action, EverydayCommand, ImportWords, Keys, NewValue, Place, Request, RequestFault, WrongCause,
+    WrongRequest,
 };
 use exh_page::Key;
 use std::alloc::Global;

@@ -93,7 +93,7 @@ fn three_keys_as_a_text(rt: HostRuntime) -> Result<(), Fail> {
 fn three_keys_as_json(rt: HostRuntime) -> Result<(), Fail> {
     let text = json_of(rt.alloc(), &stats_of_three(rt.alloc())?)?;
     let expected =
-        "{\"version\":3,\"cap\":2,\"wards":1,\"keyer\":\"plain\",\"records\":3,\"live_pages\":2,\
+        "{\"version\":3,\"cap\":2,\"wards\":1,\"keyer\":\"plain\",\"records\":3,\"live_pages\":2,\
         \"forwarding_pages\":0,\"pages_at_limit\":0,\"full_pages_at_limit\":0,\"record_bytes\":12,\
         \"page_bytes\":8192,\"depth\":1,\"longest_prefix\":\"0\",\"pages_by_records\":[0,1,1],\
         \"pages_by_bits\":[0,2],\"ward_counts\":[{\"pages\":2,\"records\":3}]}\n";

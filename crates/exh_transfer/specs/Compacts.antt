@@ -2,9 +2,9 @@
 use Rattle.std.specs.Prelude.{ℕ, Bool, List, ◌++◌, codes, decimal, Option, Result, Ok, Err}
 use Rattle.exh_answer.specs.declared.status.Status.{Status}
 use Rattle.exh_answer.specs.declared.status.Status.TheVariants.{Done, Missing}
-use Rattle.exh_compact.specs.declared.outcome.CompactCounts.{CompactCounts}
-use Rattle.exh_compact.specs.declared.outcome.CompactOutcome.{CompactOutcome}
-use Rattle.exh_compact.specs.declared.outcome.CompactOutcome.TheVariants as compacted
+use Rattle.exh_compact.specs.declared.compaction.CompactCounts.{CompactCounts}
+use Rattle.exh_compact.specs.declared.compaction.CompactOutcome.{CompactOutcome}
+use Rattle.exh_compact.specs.declared.compaction.CompactOutcome.TheVariants as compacted
 use Rattle.exh_map.specs.declared.store_error.StoreError.{StoreError}
 use Rattle.exh_map.specs.declared.store_error.StoreError.TheVariants.{Unsynchronized}
 use Rattle.exh_text.specs.Contents.{on_line}

@@ -17,11 +17,7 @@ use std::io::Write;
 
 /// Makes the page file anew with as few pages as its pairs take, of the settings that are given, and its own where none are.
 /// Where keys find no room standard error names them, and the file stays.
-pub fn compact<W: Write>(
-    run: &Run<'_>,
-    given: &GivenSettings,
-    output: &mut Output<'_, W>,
-) -> Status
+pub fn compact<W: Write>(run: &Run<'_>, given: &GivenSettings, output: &mut Output<'_, W>) -> Status
     requires open { IsFalse (writer_failed output.old) }
     requires empty { pending output.old ≡ [] }
     ensures same_writer { SameWriter output.old output.new }

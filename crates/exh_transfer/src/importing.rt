@@ -23,11 +23,7 @@ use std::io::Write;
 const BATCH: u64 = 65_536;
 
 /// Puts the pairs of standard input into the page file, line by line. Standard error names the lines that aren't put in.
-pub fn import<W: Write>(
-    run: &Run<'_>,
-    words: &ImportWords,
-    output: &mut Output<'_, W>,
-) -> Status
+pub fn import<W: Write>(run: &Run<'_>, words: &ImportWords, output: &mut Output<'_, W>) -> Status
     requires open { IsFalse (writer_failed output.old) }
     requires empty { pending output.old ≡ [] }
     ensures same_writer { SameWriter output.old output.new }
@@ -52,7 +48,13 @@ fn imported(run: &Run<'_>, words: &ImportWords, reason: &Reason) -> Result<Impor
     };
     let mut reader = ReasonReader::new(run.rt.reader(), reason);
     let mut rejected = Rejected { run };
-    exh_import::import(run.rt.alloc(), &mut reader, &mut store, options, &mut rejected)
+    exh_import::import(
+        run.rt.alloc(),
+        &mut reader,
+        &mut store,
+        options,
+        &mut rejected,
+    )
 }
 
 // The store of the file, which is made where nothing is, if settings are given.
