@@ -5,6 +5,8 @@ ghost use Rattle.exh_stream.specs.Output.{SameWriter, held, pending, writer_fail
 ghost use Rattle.exh_run.specs.Ends.{Ends};
 ghost use Rattle.exh_transfer.specs.Imports.{ImportEnds, done_ended, import_ended, import_line, import_status, lines_of, unimported_status};
 
+use crate::import_refusal::ImportRefusal;
+use crate::pair_store::PairStore;
 use crate::rejected::Rejected;
 use exh_answer::Status;
 use exh_import::{ImportFault, ImportOptions, Imported};
@@ -35,10 +37,18 @@ pub fn import<W: Write>(run: &Run<'_>, words: &ImportWords, output: &mut Output<
 }
 
 // What the library makes of standard input.
-fn imported(run: &Run<'_>, words: &ImportWords, reason: &Reason) -> Result<Imported, ImportFault> {
-    let mut store = match store_at(run, words.create) {
+fn imported(
+    run: &Run<'_>,
+    words: &ImportWords,
+    reason: &Reason,
+) -> Result<Imported, ImportRefusal> {
+    let store = match store_at(run, words.create) {
         Ok(store) => store,
-        Err(fault) => return Err(ImportFault::Store(fault)),
+        Err(fault) => return Err(ImportRefusal::Store(fault)),
+    };
+    let mut pairs = PairStore {
+        store,
+        refusal: None,
     };
     let options = ImportOptions {
         format: words.format,
@@ -48,13 +58,24 @@ fn imported(run: &Run<'_>, words: &ImportWords, reason: &Reason) -> Result<Impor
     };
     let mut reader = ReasonReader::new(run.rt.reader(), reason);
     let mut rejected = Rejected { run };
-    exh_import::import(
+    match exh_import::import(
         run.rt.alloc(),
         &mut reader,
-        &mut store,
+        &mut pairs,
         options,
         &mut rejected,
-    )
+    ) {
+        Ok(done) => Ok(done),
+        Err(fault) => Err(refusal_of(fault, pairs.refusal)),
+    }
+}
+
+// Why an import ended: what the store said, where it refused a call.
+fn refusal_of(fault: ImportFault, refusal: Option<StoreError>) -> ImportRefusal {
+    match (fault, refusal) {
+        (ImportFault::Refused, Some(cause)) => ImportRefusal::Store(cause),
+        (fault, _) => ImportRefusal::Text(fault),
+    }
 }
 
 // The store of the file, which is made where nothing is, if settings are given.
@@ -83,7 +104,7 @@ fn make_new(run: &Run<'_>, settings: Settings) -> Result<(), StoreError> {
 // Ends an import by what the library answers, and why standard input wasn't read, if it wasn't.
 fn end_import<W: Write>(
     run: &Run<'_>,
-    imported: Result<Imported, ImportFault>,
+    imported: Result<Imported, ImportRefusal>,
     reason: &Reason,
     output: &mut Output<'_, W>,
 ) -> Status
@@ -94,7 +115,7 @@ fn end_import<W: Write>(
 {
     match imported {
         Ok(done) => end_done(run, &done, output),
-        Err(fault) => refuse_import(run, fault, reason),
+        Err(refusal) => refuse_import(run, refusal, reason),
     }
 }
 
@@ -162,20 +183,29 @@ fn lines_of(done: &Imported) -> u64
 }
 
 // Says why an import ended before its end, and gives the status with which the program ends.
-fn refuse_import(run: &Run<'_>, fault: ImportFault, reason: &Reason) -> Status
-    ensures { result ≡ unimported_status fault }
+fn refuse_import(run: &Run<'_>, refusal: ImportRefusal, reason: &Reason) -> Status
+    ensures { result ≡ unimported_status refusal }
 {
+    match refusal {
+        ImportRefusal::Store(fault) => refuse_change(run, fault),
+        ImportRefusal::Text(fault) => {
+            tell_fault(run, &fault, reason);
+            Status::Refused
+        }
+    }
+}
+
+// Says why a text isn't imported to its end.
+fn tell_fault(run: &Run<'_>, fault: &ImportFault, reason: &Reason) {
     match fault {
-        ImportFault::Store(fault) => return refuse_change(run, fault),
         ImportFault::Memory => {
             let _ = eprintln!(run.rt; "exhash: {INPUT}: out of memory (refused 10)");
         }
         ImportFault::Read => tell_unread(run, reason),
-        fault => {
+        _ => {
             let _ = eprintln!(run.rt; "exhash: {INPUT}: {fault}");
         }
     }
-    Status::Refused
 }
 
 // Says why standard input isn't read.

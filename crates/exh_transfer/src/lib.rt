@@ -10,5 +10,7 @@ pub use importing::import;
 mod compacting;
 mod counting;
 mod exporting;
+mod import_refusal;
 mod importing;
+mod pair_store;
 mod rejected;
