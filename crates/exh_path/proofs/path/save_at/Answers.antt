@@ -12,3 +12,6 @@ returns-clause-wards g c = elim c.save-saved.ensures.source [
 -- the target is of the path, and of the opened file
 pub returns-clause-crash : goal.returns-clause-crash
 returns-clause-crash g c = rw (c.target_at.ensures.path, c.target_at.ensures.magic, c.target_at.ensures.seen) at c.save-saved.ensures.crash
+
+pub returns-clause-err : goal.returns-clause-err
+returns-clause-err g c = rw (c.target_at.ensures.path, c.target_at.ensures.magic, c.target_at.ensures.seen) at c.save-saved.ensures.err
