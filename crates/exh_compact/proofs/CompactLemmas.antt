@@ -1,6 +1,5 @@
 -- Pairs of a file that are in a new one.
 use Rattle.std.proofs.Common.{◌≡◌, ℕ, List, [], length, Result, Ok, Err, IfOk, ◌∙◌, ap, subst}
-use Rattle.std.specs.FinMap as fin
 use Rattle.exh_keyer.specs.declared.any_keyer.AnyKeyer.{AnyKeyer}
 use Rattle.exh_page.specs.KeyMap.{KeyMap}
 use Rattle.exh_settings.specs.declared.file_settings.FileSettings.{FileSettings}

@@ -1,5 +1,5 @@
 -- A put into the ward of its key, among the wards of a file, and the pairs that were put so far.
-use Rattle.std.proofs.Common.{◌≡◌, ◌≢◌, ℕ, zero, suc, ◌≤◌, ◌^◌, Bool, true, false, List, [], ◌∷◌, ◌++◌, length, map, slice_get, Option, None, Some, Result, Ok, Err, IfOk, OnOk, inl, inr, refl, sym, ap, ◌∙◌, subst}
+use Rattle.std.proofs.Common.{◌≡◌, ◌≢◌, ℕ, zero, suc, ◌^◌, Bool, true, false, List, [], ◌∷◌, ◌++◌, length, map, slice_get, None, Some, Result, Ok, Err, IfOk, OnOk, inl, inr, refl, sym, ap, ◌∙◌, subst}
 use Rattle.std.specs.Prelude.{slice_index_or, slice_set, nat_le}
 use Rattle.std.specs.FinMap as fin
 use Rattle.std.specs.List.{AllByRecursion}
@@ -9,7 +9,7 @@ use Rattle.std.specs.Ordering.{nat_cmp}
 use Rattle.exh_keyer.specs.Pseudokey.{any_pseudokey}
 use Rattle.exh_keyer.specs.declared.any_keyer.AnyKeyer.{AnyKeyer}
 use Rattle.exh_prefix.specs.Leading.{ward_of, ward_prefix}
-use Rattle.exh_prefix.specs.PrefixListLemmas.{one_there, set_is}
+use Rattle.exh_prefix.specs.PrefixListLemmas.{set_is}
 use Rattle.exh_page.specs.KeyMap.{KeyMap}
 use Rattle.exh_page.specs.declared.page.Page.{Page}
 use Rattle.exh_page.specs.declared.page.Page.TheVariants.{Live}
@@ -26,7 +26,7 @@ use Rattle.exh_ward.specs.NewWardLemmas.{count_of_new, new_ward_at}
 use Rattle.exh_ward.specs.NewWards.{new_ward, new_wards}
 use Rattle.exh_ward.specs.WardState.{WardState}
 use Rattle.exh_ward.specs.declared.ward_fault.WardFault.{WardFault}
-use Rattle.exh_file.specs.FileChange.{ChangesOneMap, HasMap, IsPart, maps_in}
+use Rattle.exh_file.specs.FileChange.{ChangesOneMap, HasMap, maps_in}
 use Rattle.exh_file.specs.InWardLemmas.{settings_kept, there, wards_left}
 use Rattle.exh_file.specs.Opened.{AreWardsOf, OpenedState, in_file}
 use Rattle.exh_file.specs.WardChange.{IsChanged}

@@ -1,5 +1,5 @@
 -- Pairs that are put into the wards of a file, one after the other, each key once.
-use Rattle.std.proofs.Common.{◌≡◌, ◌≢◌, ℕ, ◌+◌, ◌≤◌, ◌<◌, Bool, true, false, cond, leb, List, [], ◌∷◌, ◌++◌, length, Option, None, Some, inl, inr, refl, sym, ap, ◌∙◌, subst, arith, nat_cmp, ◌==◌, append_assoc, append-nil}
+use Rattle.std.proofs.Common.{◌≡◌, ◌≢◌, ℕ, ◌+◌, ◌≤◌, ◌<◌, Bool, true, false, cond, List, [], ◌∷◌, ◌++◌, length, None, Some, inl, inr, refl, sym, ap, ◌∙◌, arith, nat_cmp, ◌==◌, append_assoc, append-nil}
 use Rattle.std.specs.Prelude.{count_by, min, nat_le}
 use Rattle.std.specs.FinMap as fin
 use Rattle.std.specs.List.{AllByRecursion}
@@ -18,7 +18,6 @@ use Rattle.exh_calls.specs.Effect.{Effect, effect_of}
 use Rattle.exh_calls.specs.MapMachine.{changed, effect_in, is_full, map_after, reply_of, sharing}
 use Rattle.exh_calls.specs.SharingLemmas.{shares, sharing_all, sharing_same}
 use Rattle.exh_calls.specs.declared.call.Call.TheVariants.{Put}
-use Rattle.exh_calls.specs.declared.reply.Reply.{Reply}
 use Rattle.exh_calls.specs.declared.reply.Reply.TheVariants.{Full, New}
 use Rattle.exh_map.specs.Pairs.{AreOnce}
 use Rattle.exh_compact.specs.Room.{sharers, without_room}

@@ -1,5 +1,5 @@
 -- A put into a ward, turn by turn: splits of its key's home, and the answer.
-use Rattle.std.proofs.Common.{◌≡◌, ℕ, ◌+◌, ◌<◌, Bool, true, false, List, length, Option, None, Some, refl, sym, ap, ◌∙◌, subst, arith}
+use Rattle.std.proofs.Common.{◌≡◌, ℕ, ◌<◌, Bool, true, false, List, Option, None, Some, refl, sym, ap, ◌∙◌, subst, arith}
 use Rattle.std.specs.FinMap as fin
 use Rattle.exh_keyer.specs.Pseudokey.{any_pseudokey}
 use Rattle.exh_keyer.specs.declared.any_keyer.AnyKeyer.{AnyKeyer}
@@ -10,13 +10,13 @@ use Rattle.exh_page.specs.KeyMap.{KeyMap}
 use Rattle.exh_page.specs.declared.page.Page.TheVariants.{Live, Forward}
 use Rattle.exh_calls.specs.Call.{key_of}
 use Rattle.exh_calls.specs.Effect.{effect_of}
-use Rattle.exh_calls.specs.MapMachine.{changed, is_full, map_after, reply_of}
+use Rattle.exh_calls.specs.MapMachine.{changed, is_full}
 use Rattle.exh_calls.specs.declared.call.Call.{Call}
 use Rattle.exh_calls.specs.declared.call.Call.TheVariants.{Put}
 use Rattle.exh_calls.specs.declared.reply.Reply.{Reply}
 use Rattle.exh_calls.specs.declared.reply.Reply.TheVariants.{New}
 use Rattle.exh_legal.specs.Change.{IsSplit}
-use Rattle.exh_legal.specs.Pages.{IsAt, bare, map_of}
+use Rattle.exh_legal.specs.Pages.{bare, map_of}
 use Rattle.exh_ward.specs.AnswerLemmas.{bare_answered}
 use Rattle.exh_ward.specs.HopTable.{HopOf}
 use Rattle.exh_ward.specs.WardState.{IsAnswered, IsSoundWard, LeavesAfter, WardState, own_prefix}

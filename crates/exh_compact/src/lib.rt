@@ -10,5 +10,7 @@ mod compact_options;
 mod compacted;
 mod compacting;
 mod compaction;
+#[cfg(test)]
+mod examples;
 mod filling;
 mod putting;

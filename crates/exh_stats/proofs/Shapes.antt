@@ -1,5 +1,5 @@
 -- The pages of wards, and what is counted of them.
-use Rattle.std.proofs.Common.{◌≡◌, ℕ, ◌+◌, ◌≤◌, List, [], ◌∷◌, ◌++◌, append-nil, length, map, slice_get, Option, None, Some, take, refl, sym, ap, ◌∙◌, subst, arith}
+use Rattle.std.proofs.Common.{◌≡◌, ℕ, ◌+◌, ◌≤◌, List, [], ◌∷◌, ◌++◌, append-nil, length, map, slice_get, Some, take, sym, ap, ◌∙◌, arith}
 use Rattle.std.specs.Prelude.{slice_set}
 use Rattle.std.specs.List.{flat_map}
 use Rattle.std.proofs.lemmas.Grind.{flat_map-append}
@@ -12,7 +12,7 @@ use Rattle.exh_page.specs.declared.page.Page.TheVariants.{Live, Forward}
 use Rattle.exh_page.specs.declared.page.TheConstants.{CAP_LIMIT}
 use Rattle.exh_legal.specs.MapLemmas.{page_at}
 use Rattle.exh_legal.specs.Pages.{IsAt, IsLegalPage}
-use Rattle.exh_ward.specs.WardState.{IsSound, WardState, own_prefix}
+use Rattle.exh_ward.specs.WardState.{IsSound, WardState}
 use Rattle.exh_stats.specs.Shape.{shape_of}
 use Rattle.exh_stats.specs.Stats.{shapes_in, ward_counts_of}
 use Rattle.exh_stats.specs.declared.page_shape.PageShape.{PageShape}

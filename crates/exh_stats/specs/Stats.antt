@@ -1,8 +1,9 @@
 -- What the numbers of a file are, over what is counted of its pages.
-use Rattle.std.specs.Prelude.{◌≡◌, ◌⊎◌, ◌==◌, ◌&&◌, ◌≤◌, not, ℕ, List, [], length, map, flat_map, count_by, sum_by, nat_le, slice_index, EachIndex, Contains}
+use Rattle.std.specs.Prelude.{◌≡◌, ◌⊎◌, ◌==◌, ◌&&◌, ◌≤◌, ◌*◌, not, ℕ, List, [], length, map, flat_map, count_by, sum_by, nat_le, slice_index, EachIndex, Contains}
 use Rattle.std.specs.List.{All}
 use Rattle.exh_keyer.specs.declared.any_keyer.AnyKeyer.{AnyKeyer}
 use Rattle.exh_prefix.specs.declared.prefix.TheConstants.{LIMIT}
+use Rattle.exh_codec.specs.declared.block.TheConstants.{BLOCK_LEN}
 use Rattle.exh_file.specs.Opened.{OpenedState, settings_in}
 use Rattle.exh_ward.specs.WardState.{WardState}
 use Rattle.exh_stats.specs.Shape.{shape_of}
@@ -23,6 +24,10 @@ record_sum shapes = sum_by (λ s. s.records) shapes
 
 abbrev pub byte_sum : List PageShape → ℕ
 byte_sum shapes = sum_by (λ s. s.bytes) shapes
+
+-- the bytes of their blocks
+abbrev pub block_bytes : List PageShape → ℕ
+block_bytes shapes = BLOCK_LEN * length shapes
 
 -- the live ones with so many records, and those whose prefix has so many bits
 abbrev pub with_records_count : ℕ → List PageShape → ℕ
@@ -61,4 +66,5 @@ pub record AreStatsOf (version : ℕ) (file : OpenedState) (stats : Stats) : Typ
   pub at_limit : stats.at_limit ≡ limit_count (shapes_in file.wards)
   pub full_at_limit : stats.full_at_limit ≡ full_limit_count file.cap (shapes_in file.wards)
   pub record_bytes : stats.record_bytes ≡ byte_sum (shapes_in file.wards)
+  pub page_bytes : stats.page_bytes ≡ block_bytes (shapes_in file.wards)
   pub wards : stats.wards.items ≡ map (λ ward. ward_counts_of (map shape_of ward.pages)) file.wards

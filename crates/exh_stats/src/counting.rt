@@ -1,10 +1,11 @@
 //! Counts and sums over pages.
 ghost use Rattle.std.specs.Prelude.{◌≡◌, ◌⊎◌, ◌≤◌, ◌^◌, [], EachIndex, Contains, length, map, not, slice_index};
 ghost use Rattle.std.specs.List.{All};
-ghost use Rattle.exh_stats.specs.Stats.{byte_sum, full_limit_count, limit_count, live_count, forward_count, record_sum, with_bits_count, with_records_count};
+ghost use Rattle.exh_stats.specs.Stats.{block_bytes, byte_sum, full_limit_count, limit_count, live_count, forward_count, record_sum, with_bits_count, with_records_count};
 
 use crate::PageShape;
 use crate::stats::{BIT_COUNTS, RECORD_COUNTS};
+use exh_codec::BLOCK_LEN;
 use exh_prefix::{LIMIT, Prefix};
 
 /// How many records the pages have.
@@ -29,6 +30,14 @@ pub(crate) fn byte_count(shapes: &[PageShape]) -> u64
         sum += u64::from(shape.bytes);
     }
     sum
+}
+
+/// How many bytes these blocks have.
+pub(crate) fn block_bytes(shapes: &[PageShape]) -> u64
+    requires { length shapes.now ≤ 2 ^ 24 }
+    ensures { result ≡ block_bytes shapes.now }
+{
+    shapes.len() as u64 * BLOCK_LEN as u64
 }
 
 /// How many of them are live.

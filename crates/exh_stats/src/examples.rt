@@ -69,7 +69,7 @@ fn three_keys_are_counted(rt: HostRuntime) -> Result<(), Fail> {
     assert!(rt; stats.by_bits.starts_with(&[0, 2, 0]));
     assert_eq!(rt; stats.longest.len(), 1);
     assert_eq!(rt; stats.record_bytes, 12);
-    assert_eq!(rt; stats.page_bytes(), 8192);
+    assert_eq!(rt; stats.page_bytes, 8192);
     Ok(())
 }
 
@@ -112,7 +112,7 @@ fn a_forwarding_page_is_counted(rt: HostRuntime) -> Result<(), Fail> {
     assert!(rt; stats.by_records.starts_with(&[0, 0, 1]));
     assert!(rt; stats.by_bits.starts_with(&[1, 0]));
     assert_eq!(rt; stats.longest.len(), 0);
-    assert_eq!(rt; stats.page_bytes(), 8192);
+    assert_eq!(rt; stats.page_bytes, 8192);
     Ok(())
 }
 

@@ -33,7 +33,7 @@ fn push_totals(out: &mut Vec<u8>, stats: &Stats) -> Result<(), AllocError> {
     push_member(out, ",\"pages_at_limit\":", stats.at_limit)?;
     push_member(out, ",\"full_pages_at_limit\":", stats.full_at_limit)?;
     push_member(out, ",\"record_bytes\":", stats.record_bytes)?;
-    push_member(out, ",\"page_bytes\":", stats.page_bytes())
+    push_member(out, ",\"page_bytes\":", stats.page_bytes)
 }
 
 // Adds how full and how deep its pages are.

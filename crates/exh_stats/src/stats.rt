@@ -3,11 +3,10 @@ ghost use Rattle.exh_stats.specs.Stats.{AreStatsOf};
 
 use crate::WardCounts;
 use crate::counting::{
-    by_bits, by_records, byte_count, forward_count, full_limit_count, limit_count, live_count,
-    longest, record_count,
+    block_bytes, by_bits, by_records, byte_count, forward_count, full_limit_count, limit_count,
+    live_count, longest, record_count,
 };
 use crate::gathering::gathered;
-use exh_codec::BLOCK_LEN;
 use exh_file::Opened;
 use exh_keyer::AnyKeyer;
 use exh_prefix::Prefix;
@@ -43,16 +42,10 @@ pub struct Stats {
     pub full_at_limit: u64,
     /// How many bytes of the pages' blocks the records take.
     pub record_bytes: u64,
+    /// How many bytes these blocks have, 4,096 each.
+    pub page_bytes: u64,
     /// How much each ward has, in the order of their numbers.
     pub wards: Vec<WardCounts>,
-}
-
-impl Stats {
-    /// How many bytes the blocks of all pages have, 4,096 each.
-    pub fn page_bytes(&self) -> u64 {
-        let pages = self.live.saturating_add(self.forwarding);
-        pages.saturating_mul(BLOCK_LEN as u64)
-    }
 }
 
 /// How much the file of these wards has, which is of this version. It takes memory for some bytes a page.
@@ -81,6 +74,7 @@ pub fn stats_of<P: Pages + Drop>(
         at_limit: limit_count(shapes),
         full_at_limit: full_limit_count(settings.cap, shapes),
         record_bytes: byte_count(shapes),
+        page_bytes: block_bytes(shapes),
         wards: gathered.wards,
     })
 }

@@ -52,7 +52,7 @@ fn push_pages(out: &mut Vec<u8>, stats: &Stats) -> Result<(), AllocError> {
 
 // Adds the line of how many bytes of the pages' blocks the records take.
 fn push_bytes(out: &mut Vec<u8>, stats: &Stats) -> Result<(), AllocError> {
-    let bytes = stats.page_bytes();
+    let bytes = stats.page_bytes;
     push_pair(out, "bytes ", stats.record_bytes, " of records in ", bytes)?;
     push_text(out, " of pages\n")
 }

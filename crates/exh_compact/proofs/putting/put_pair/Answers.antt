@@ -1,4 +1,4 @@
-use Rattle.std.proofs.Common.{◌≡◌, [], inl, inr, refl, sym, ap, ◌∙◌, subst, arith}
+use Rattle.std.proofs.Common.{[], inl, inr, refl, sym, ap, ◌∙◌, subst, arith}
 use Rattle.exh_keyer.specs.Pseudokey.{any_pseudokey}
 use Rattle.exh_prefix.specs.Prefix.{Begins}
 use Rattle.exh_calls.specs.declared.call.Call.TheVariants.{Put}

@@ -1,4 +1,4 @@
-use Rattle.std.proofs.Common.{◌≡◌, ◌⊎◌, ℕ, ◌≤◌, List, [], length, map, slice_get, Some}
+use Rattle.std.proofs.Common.{◌≡◌, ◌⊎◌, ℕ, ◌≤◌, [], length, map, slice_get, Some}
 use Rattle.std.specs.Prelude.{Contains, ◌<◌}
 use Rattle.exh_stats.specs.declared.page_shape.PageShape.{PageShape}
 use Rattle.exh_stats.proofs.counting.longest.Given as goal

@@ -1,11 +1,11 @@
-use Rattle.std.proofs.Common.{◌≡◌, ◌⊎◌, ℕ, List, [], refl, map, length, ap, ◌∙◌, subst}
+use Rattle.std.proofs.Common.{◌≡◌, ◌⊎◌, List, [], refl, map, length, ap, ◌∙◌, subst}
 use Rattle.std.specs.Prelude.{Contains, EachIndex, slice_index, ◌≤◌}
 use Rattle.std.specs.List.{All}
 use Rattle.exh_keyer.specs.declared.any_keyer.AnyKeyer.{AnyKeyer}
 use Rattle.exh_settings.specs.declared.file_settings.FileSettings.{FileSettings}
 use Rattle.exh_ward.specs.WardState.{WardState}
 use Rattle.exh_stats.specs.Shape.{shape_of}
-use Rattle.exh_stats.specs.Stats.{byte_sum, forward_count, full_limit_count, limit_count, live_count, record_sum, shapes_in, ward_counts_of, with_bits_count, with_records_count}
+use Rattle.exh_stats.specs.Stats.{block_bytes, byte_sum, forward_count, full_limit_count, limit_count, live_count, record_sum, shapes_in, ward_counts_of, with_bits_count, with_records_count}
 use Rattle.exh_stats.specs.declared.page_shape.PageShape.{PageShape}
 use Rattle.exh_stats.proofs.stats.stats_of.Goals as goal
 
@@ -28,5 +28,6 @@ returns g c =
       at_limit = c.limit_count.ensures ∙ ap limit_count same;
       full_at_limit = c.full_limit_count.ensures ∙ ap (λ (s : FileSettings AnyKeyer). full_limit_count s.cap shapes) c.settings-settings.ensures ∙ ap (full_limit_count c.args.opened.cap) same;
       record_bytes = c.byte_count.ensures ∙ ap byte_sum same;
+      page_bytes = c.block_bytes.ensures ∙ ap block_bytes same;
       wards = c.in_ok-gathered.ensures.wards ∙ ap (λ (ws : List (WardState AnyKeyer)). map (λ (w : WardState AnyKeyer). ward_counts_of (map shape_of w.pages)) ws) c.into_wards-wards.ensures.wards;
     }
