@@ -1,0 +1,2 @@
+-- of the lines of a reader, and of a text
+pub mod Texts

@@ -1,0 +1,127 @@
+-- The lines of a text, of which a beginning is taken, and what is done of them.
+use Rattle.std.proofs.Common.{◌≡◌, ◌≢◌, ℕ, ◌<◌, true, false, List, [], ◌∷◌, ◌++◌, length, drop, flat_map, Option, Some, None, IfSome, Result, Ok, Err, IfOk, inl, inr, refl, sym, ap, ap₂, ◌∙◌, subst, append_assoc, append-nil, arith}
+use Rattle.std.specs.List.{AllByRecursion}
+use Rattle.std.specs.Io.KnownBytes.{Consumes, IsAtEnd, Keeps, prepend_known}
+use Rattle.std.proofs.KnownBytes.{Consumes-kept, Consumes-nil, Consumes-trans, Consumes-whole}
+use Rattle.std.proofs.lemmas.List.{length-drop}
+use Rattle.std.proofs.lemmas.List.Elements.{All-append, All-cons, All-nil}
+use Rattle.exh_stream.specs.Source.{unread}
+use Rattle.exh_text.specs.TextLines.{newline}
+use Rattle.exh_import.specs.declared.imported_store.Added.{Added}
+use Rattle.exh_import.specs.declared.line_reader.LineReader.{LineReader}
+use Rattle.exh_import.specs.declared.rejection.Rejection.{Rejection}
+use Rattle.exh_import.specs.Imports.{IsTextOf, Point, TakesLine, TakesLines, TakesText}
+use Rattle.exh_import.specs.LineReader.{EndsRight, IsOneLine, IsOver, TakesNext, text_left, waiting}
+
+pub if_ok_map : {T E : Type 0} (result : Result T E) (P Q : T → Type 0) → IfOk result P → ((made : T) → P made → Q made) → IfOk result Q
+if_ok_map (Ok made) P Q holds more = more made holds
+if_ok_map (Err fault) P Q holds more = tt
+
+-- ---- lines that end with a newline
+
+abbrev pub whole_line : List ℕ → List ℕ
+whole_line line = line ++ newline ∷ []
+
+abbrev pub whole_lines : List (List ℕ) → List ℕ
+whole_lines lines = flat_map whole_line lines
+
+abbrev pub AreOneLines : List (List ℕ) → Type 0
+AreOneLines lines = AllByRecursion IsOneLine lines
+
+-- lines behind others
+pub lines_behind : (front lines : List (List ℕ)) (rest : List ℕ) → AreOneLines front → IsTextOf lines rest → IsTextOf (front ++ lines) (whole_lines front ++ rest)
+lines_behind [] lines rest all text = text
+lines_behind (line ∷ front) lines rest all text =
+    (all.0, inl (whole_lines front ++ rest, append_assoc (whole_line line) (whole_lines front) rest ∙ append_assoc line (newline ∷ []) (whole_lines front ++ rest), lines_behind front lines rest all.1 text))
+
+pub lines_end : (front : List (List ℕ)) → AreOneLines front → IsTextOf front (whole_lines front)
+lines_end [] all = refl
+lines_end (line ∷ front) all = (all.0, inl (whole_lines front, append_assoc line (newline ∷ []) (whole_lines front), lines_end front all.1))
+
+pub lines_more : (front : List (List ℕ)) (line : List ℕ) → AreOneLines front → IsOneLine line → AreOneLines (front ++ line ∷ [])
+lines_more [] line all one = (one, tt)
+lines_more (first ∷ front) line all one = (all.0, lines_more front line all.1 one)
+
+pub whole_more : (front : List (List ℕ)) (line : List ℕ) → whole_lines (front ++ line ∷ []) ≡ whole_lines front ++ whole_line line
+whole_more [] line = append-nil (whole_line line)
+whole_more (first ∷ front) line = ap (λ (rest : List ℕ). whole_line first ++ rest) (whole_more front line) ∙ sym (append_assoc (whole_line first) (whole_lines front) (whole_line line))
+
+-- a last line that has no newline
+pub last_line : (line : List ℕ) → IsOneLine line → line ≢ [] → IsTextOf (line ∷ []) line
+last_line line one some = (one, inr (refl, some, refl))
+
+pub more_in_line : (line : List ℕ) (byte : ℕ) → IsOneLine line → byte ≢ newline → IsOneLine (line ++ byte ∷ [])
+more_in_line line byte one other =
+    All-append (λ b. b ≢ newline) line (byte ∷ []) one (All-cons (λ b. b ≢ newline) byte [] other (All-nil (λ b. b ≢ newline)))
+
+-- ---- what is left of a text
+
+left_none : (known : Option (List ℕ)) (waits : List ℕ) → waits ≡ [] → IsAtEnd known → IsAtEnd (prepend_known waits known)
+left_none None waits none end = tt
+left_none (Some bytes) waits none end = ap₂ (λ (a b : List ℕ). a ++ b) none end
+
+pub over_end : {R : Type 0} (remaining : R → Option (List ℕ)) (lines : LineReader R) → EndsRight remaining lines → IsOver lines → IsAtEnd (text_left remaining lines)
+over_end remaining lines ends over = left_none (unread remaining lines.source) (waiting lines) over.taken (ends over.ended)
+
+pub drop_some : (at : ℕ) (items : List ℕ) → at < length items → drop at items ≢ []
+drop_some at items within none = absurd (omega (arith, length-drop at items, ap length none, within))
+
+-- ---- lines of which none is the last
+
+module _ {S L : Type 0} (gives : S → List ℕ → List ℕ → Added → S → Type 0) (saves : S → S → Type 0) (told : L → ℕ → Rejection → List ℕ → L → Type 0) where
+  pub takes_more : (lines : List (List ℕ)) (line : List ℕ) (old mid new : Point S L) → TakesLines gives saves told lines old mid → TakesLine gives saves told false line mid new → TakesLines gives saves told (lines ++ line ∷ []) old new
+  takes_more [] line old mid new is takes = (new, (subst (λ (p : Point S L). TakesLine gives saves told false line p new) is takes, refl))
+  takes_more (first ∷ lines) line old mid new (next, (one, rest)) takes = (next, (one, takes_more lines line next mid new rest takes))
+
+  -- ---- how far a text is imported
+
+  module _ {R : Type 0} (remaining : R → Option (List ℕ)) (known : Option (List ℕ)) (start : Point S L) where
+    -- lines of it are taken, and more is left
+    pub record IsAmid (lines : LineReader R) (now : Point S L) : Type 0 where
+      pub front : List (List ℕ)
+      pub one : AreOneLines front
+      pub given : Consumes known (text_left remaining lines) (whole_lines front)
+      pub takes : TakesLines gives saves told front start now
+
+    -- all are
+    pub record IsWhole (now : Point S L) : Type 0 where
+      pub lines : List (List ℕ)
+      pub text : IfSome known (IsTextOf lines)
+      pub takes : TakesText gives saves told lines start now
+
+    pub amid_start : (lines : LineReader R) → Keeps known (text_left remaining lines) → IsAmid lines start
+    amid_start lines kept = record { front = []; one = tt; given = Consumes-kept known known (text_left remaining lines) [] (Consumes-nil known) kept; takes = refl }
+
+    pub whole_start : (lines : LineReader R) → Keeps known (text_left remaining lines) → EndsRight remaining lines → IsOver lines → IsWhole start
+    whole_start lines kept ends over = record {
+      lines = [];
+      text = Consumes-whole known (text_left remaining lines) [] (IsTextOf []) (Consumes-kept known known (text_left remaining lines) [] (Consumes-nil known) kept) (over_end remaining lines ends over) refl;
+      takes = inl (refl, refl);
+    }
+
+    pub amid_step : (old new : LineReader R) (now next : Point S L) → IsAmid old now → TakesNext remaining old new → (IsOver new → ⊥) → TakesLine gives saves told false new.line.items now next → IsAmid new next
+    amid_step old new now next amid (one, taken) more takes = elim taken [
+      | inl given ↦ record {
+        front = amid.front ++ new.line.items ∷ [];
+        one = lines_more amid.front new.line.items amid.one one;
+        given = subst (Consumes known (text_left remaining new)) (sym (whole_more amid.front new.line.items)) (Consumes-trans known (text_left remaining old) (text_left remaining new) (whole_lines amid.front) (whole_line new.line.items) amid.given given);
+        takes = takes_more amid.front new.line.items start now next amid.takes takes;
+      }
+      | inr last ↦ absurd (more last.2)
+    ]
+
+    pub whole_step : (old new : LineReader R) (now next : Point S L) → IsAmid old now → TakesNext remaining old new → EndsRight remaining new → IsOver new → TakesLine gives saves told true new.line.items now next → IsWhole next
+    whole_step old new now next amid (one, taken) ends over takes = record {
+      lines = amid.front ++ new.line.items ∷ [];
+      text = elim taken [
+        | inl given ↦
+            Consumes-whole known (text_left remaining new) (whole_lines amid.front ++ whole_line new.line.items) (IsTextOf (amid.front ++ new.line.items ∷ []))
+            (Consumes-trans known (text_left remaining old) (text_left remaining new) (whole_lines amid.front) (whole_line new.line.items) amid.given given) (over_end remaining new ends over)
+            (subst (IsTextOf (amid.front ++ new.line.items ∷ [])) (whole_more amid.front new.line.items) (lines_end (amid.front ++ new.line.items ∷ []) (lines_more amid.front new.line.items amid.one one)))
+        | inr last ↦
+            Consumes-whole known (text_left remaining new) (whole_lines amid.front ++ new.line.items) (IsTextOf (amid.front ++ new.line.items ∷ []))
+            (Consumes-trans known (text_left remaining old) (text_left remaining new) (whole_lines amid.front) new.line.items amid.given last.0) (over_end remaining new ends over)
+            (lines_behind amid.front (new.line.items ∷ []) new.line.items amid.one (last_line new.line.items one last.1))
+      ];
+      takes = inr (amid.front, (new.line.items, (now, (refl, (amid.takes, takes)))));
+    }

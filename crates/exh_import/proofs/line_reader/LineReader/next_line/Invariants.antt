@@ -1,0 +1,14 @@
+use Rattle.std.proofs.Common.{◌≡◌, ◌≢◌, []}
+use Rattle.exh_stream.specs.Source.{SameReader}
+use Rattle.exh_import.specs.LineReader.{AreTaken, EndsRight, IsOneLine, waiting}
+use Rattle.exh_import.proofs.line_reader.LineReader.next_line.Given as goal
+
+-- the bytes that were taken are those of the line
+abbrev pub invariant-bytes : goal.invariant-bytes
+invariant-bytes g l = record {
+  same_reader : SameReader l.fn.self.source l.self.source;
+  ends : EndsRight g.R.Read.remaining l.self;
+  taken : AreTaken g.R.Read.remaining l.fn.self l.self l.self.line.items;
+  one : IsOneLine l.self.line.items;
+  some : l.self.line.items ≡ [] → waiting l.self ≢ [];
+}

@@ -1,0 +1,35 @@
+-- The lines of a text that comes from a reader: contracts of private functions.
+use Rattle.std.specs.Prelude.{◌≡◌, ◌≢◌, ◌⊎◌, ℕ, List, [], ◌∷◌, ◌++◌, drop, All, Option, IsTrue}
+use Rattle.std.specs.Io.KnownBytes.{Consumes, IsAtEnd, prepend_known}
+use Rattle.exh_stream.specs.Source.{unread}
+use Rattle.exh_text.specs.TextLines.{newline}
+use Rattle.exh_import.specs.declared.line_reader.LineReader.{LineReader}
+
+-- what of the block isn't taken yet
+abbrev pub waiting : {R : Type 0} → LineReader R → List ℕ
+waiting lines = drop lines.at lines.block.items
+
+-- what of the text isn't taken yet, where it is known
+abbrev pub text_left : {R : Type 0} → (R → Option (List ℕ)) → LineReader R → Option (List ℕ)
+text_left remaining lines = prepend_known (waiting lines) (unread remaining lines.source)
+
+-- the reader is at its end where that was seen
+abbrev pub EndsRight : {R : Type 0} → (R → Option (List ℕ)) → LineReader R → Type 0
+EndsRight remaining lines = IsTrue lines.ended → IsAtEnd (unread remaining lines.source)
+
+-- all of the text is taken
+pub record IsOver {R : Type 0} (lines : LineReader R) : Type 0 where
+  pub ended : IsTrue lines.ended
+  pub taken : waiting lines ≡ []
+
+-- these bytes of the text were taken
+abbrev pub AreTaken : {R : Type 0} → (R → Option (List ℕ)) → LineReader R → LineReader R → List ℕ → Type 0
+AreTaken remaining old new given = Consumes (text_left remaining old) (text_left remaining new) given
+
+abbrev pub IsOneLine : List ℕ → Type 0
+IsOneLine line = All (λ byte. byte ≢ newline) line
+
+-- a line and its newline were taken, or all that was left, which has none
+abbrev pub TakesNext : {R : Type 0} → (R → Option (List ℕ)) → LineReader R → LineReader R → Type 0
+TakesNext remaining old new =
+    IsOneLine new.line.items × (AreTaken remaining old new (new.line.items ++ newline ∷ []) ⊎ (AreTaken remaining old new new.line.items × (new.line.items ≢ []) × IsOver new))

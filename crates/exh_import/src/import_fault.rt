@@ -1,0 +1,52 @@
+ghost use Rattle.std.specs.Prelude.{◌≡◌};
+ghost use Rattle.exh_import.specs.declared.import_fault.ImportFault.TheVariants.{Memory, Read, Refused as StoreRefused};
+
+use crate::Refused;
+use exh_pair_text::PairFormat;
+use exh_stream::ReadFault;
+use std::alloc::AllocError;
+use thiserror::Error;
+
+/// Why an import ended before the text's end. What was committed until then stays.
+#[derive(Clone, Copy, Debug, PartialEq, Eq, Error)]
+pub enum ImportFault {
+    /// The reader failed.
+    #[error("the reader failed")]
+    Read,
+    /// A growth was refused.
+    #[error("out of memory")]
+    Memory,
+    /// The line of this number has more than 65,536 bytes.
+    #[error("line {number} has more than 65,536 bytes")]
+    LongLine { number: u64 },
+    /// The text's opening names another format.
+    #[error("the text is an export of the format {}", .found.name())]
+    OtherFormat { found: PairFormat },
+    /// The store refused a put or a commit. Why is the store's own to tell.
+    #[error("the store refused")]
+    Refused,
+}
+
+impl From<ReadFault> for ImportFault {
+    ghost from_gives = { λ _ fault. fault ≡ Read };
+
+    fn from(_fault: ReadFault) -> ImportFault {
+        ImportFault::Read
+    }
+}
+
+impl From<AllocError> for ImportFault {
+    ghost from_gives = { λ _ fault. fault ≡ Memory };
+
+    fn from(_error: AllocError) -> ImportFault {
+        ImportFault::Memory
+    }
+}
+
+impl From<Refused> for ImportFault {
+    ghost from_gives = { λ _ fault. fault ≡ StoreRefused };
+
+    fn from(_refused: Refused) -> ImportFault {
+        ImportFault::Refused
+    }
+}

@@ -1,0 +1,66 @@
+//! The import of a text, line by line.
+ghost use Rattle.std.specs.Prelude.{◌≡◌, ◌≢◌, ℕ, List, [], IfOk, IfSome, IsFalse, IsTrue, OnOk};
+ghost use Rattle.exh_import.specs.Imports.{Imports, IsTextOf, TakesLine};
+ghost use Rattle.exh_import.specs.LineReader.{EndsRight, IsOver, TakesNext, waiting};
+
+use crate::line_reader::LineReader;
+use crate::taking::Taking;
+use crate::{ImportFault, ImportOptions, Imported, ImportedStore, Rejects};
+use std::alloc::Global;
+use std::io::Read;
+
+/// Imports a text of pairs: puts the pair of each line into a store, in order, and hands each line that isn't put to the
+/// listener.
+///
+/// Pairs are committed in batches and at the end; or at the end alone where `is_atomic` is asked for, and not at all then
+/// where a line was rejected, a key had no room or the text is cut off. A text that begins with the opening of an export is
+/// cut off where its last line isn't the end with the number of its lines between, empty ones aside; that last line isn't
+/// put. An opening or end elsewhere is rejected.
+///
+/// `Read`: the reader failed. `Memory`: a growth was refused. `LongLine`: a line has more than 65,536 bytes. `OtherFormat`:
+/// the opening names another format. `Refused`: the store refused a put or a commit. The pairs since the last commit stay in
+/// the store, uncommitted.
+pub fn import<R: Read, S: ImportedStore, L: Rejects>(
+    alloc: Global,
+    reader: &mut R,
+    store: &mut S,
+    options: ImportOptions,
+    listener: &mut L,
+) -> Result<Imported, ImportFault>
+    ensures { IfOk result (λ imported. (lines : List (List ℕ)) × (IfSome (R.remaining reader.old) (IsTextOf lines)
+        × Imports S.gives S.saves L.told options lines store.old listener.old imported store.new listener.new)) }
+{
+    let mut lines = LineReader::new(alloc, reader);
+    let mut taking = Taking::new(options);
+    let mut is_over = lines.is_over()?;
+    'lines: for _line in 0..u64::MAX {
+        if is_over {
+            return taking.finish(store);
+        }
+        is_over = take_next(&mut lines, &mut taking, store, listener)?;
+    }
+    Err(ImportFault::LongLine { number: u64::MAX })
+}
+
+// Takes the next line, and says whether it is the last.
+fn take_next<R: Read, S: ImportedStore, L: Rejects>(
+    lines: &mut LineReader<'_, R>,
+    taking: &mut Taking,
+    store: &mut S,
+    listener: &mut L,
+) -> Result<bool, ImportFault>
+    requires ends { EndsRight R.remaining lines.old }
+    requires some { waiting lines.old ≢ [] }
+    ensures ends { OnOk result (EndsRight R.remaining lines.new) }
+    ensures next { OnOk result (TakesNext R.remaining lines.old lines.new) }
+    ensures over { IfOk result (λ over. IsTrue over → IsOver lines.new) }
+    ensures some { IfOk result (λ over. IsFalse over → waiting lines.new ≢ []) }
+    ensures taken { IfOk result (λ over. TakesLine S.gives S.saves L.told over lines.new.line.items
+        (record { taking = taking.old; store = store.old; listener = listener.old })
+        (record { taking = taking.new; store = store.new; listener = listener.new })) }
+{
+    lines.next_line(taking.imported.lines.saturating_add(1))?;
+    let is_last = lines.is_over()?;
+    taking.take(lines.line(), is_last, store, listener)?;
+    Ok(is_last)
+}

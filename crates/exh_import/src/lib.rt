@@ -1,0 +1,20 @@
+//! Import of a text of pairs into a store, line by line.
+#![tactic(auto)]
+
+pub use import_fault::ImportFault;
+pub use imported::Imported;
+pub use imported_store::{Added, ImportedStore, Refused};
+pub use importing::import;
+pub use options::ImportOptions;
+pub use rejection::{Rejection, Rejects};
+
+mod import_fault;
+mod imported;
+mod imported_store;
+mod importing;
+mod line_reader;
+mod options;
+mod rejection;
+mod taking;
+#[cfg(test)]
+mod tests;

@@ -1,0 +1,210 @@
+//! What is done of each line of a text.
+ghost use Rattle.std.specs.Prelude.{◌≡◌, IfOk, OnOk};
+ghost use Rattle.exh_import.specs.Counting.{closed, first_opening, is_amiss, is_right_end, opened, rejected_counted, saved, starts, told_lines};
+ghost use Rattle.exh_import.specs.Imports.{Finishes, Puts, SavesBatch, TakesAmid, TakesLine};
+
+use crate::{Added, ImportFault, ImportOptions, Imported, ImportedStore, Rejection, Rejects};
+use exh_page::{Key, Value};
+use exh_pair_text::{Line, PairFormat, line_of};
+
+// How far an import is.
+#[derive(Clone, Copy)]
+pub(crate) struct Taking {
+    options: ImportOptions,
+    pub(crate) imported: Imported,
+    // The text begins with an opening.
+    is_opened: bool,
+    // Pairs that were put since the last commit.
+    unsaved: u64,
+}
+
+impl Taking {
+    // Of a text of which no line is taken.
+    pub(crate) fn new(options: ImportOptions) -> Taking
+        ensures { result ≡ starts options }
+    {
+        Taking {
+            options,
+            imported: Imported {
+                lines: 0,
+                pairs: 0,
+                rejected: 0,
+                full: 0,
+                is_cut_off: false,
+                is_committed: false,
+            },
+            is_opened: false,
+            unsaved: 0,
+        }
+    }
+
+    // Takes the next line, which is the text's last one or isn't.
+    pub(crate) fn take<S: ImportedStore, L: Rejects>(
+        &mut self,
+        line: &[u8],
+        is_last: bool,
+        store: &mut S,
+        listener: &mut L,
+    ) -> Result<(), ImportFault>
+        ensures { OnOk result (TakesLine S.gives S.saves L.told is_last line.now
+            (record { taking = self.old; store = store.old; listener = listener.old })
+            (record { taking = self.new; store = store.new; listener = listener.new })) }
+    {
+        let is_first = self.imported.lines == 0;
+        let read = line_of(self.options.format, self.options.is_hex, line);
+        self.imported.lines = self.imported.lines.saturating_add(1);
+        match first_opening(is_first, &read) {
+            Some(found) => self.open(found, is_last),
+            None if self.is_opened && is_last => {
+                self.close(&read);
+                Ok(())
+            }
+            None => self.take_amid(&read, line, store, listener),
+        }
+    }
+
+    // Begins an export, of which the opening may be the last line.
+    fn open(&mut self, found: PairFormat, is_last: bool) -> Result<(), ImportFault>
+        ensures { OnOk result ((found ≡ self.old.options.format) × (self.new ≡ opened is_last self.old)) }
+    {
+        if found != self.options.format {
+            return Err(ImportFault::OtherFormat { found });
+        }
+        self.is_opened = true;
+        self.imported.is_cut_off = is_last;
+        Ok(())
+    }
+
+    // Ends an export by its last line.
+    fn close(&mut self, read: &Line)
+        ensures { self.new ≡ closed read.now self.old }
+    {
+        self.imported.is_cut_off = !is_right_end(self.told_lines(), read);
+    }
+
+    // How many lines were put or rejected.
+    fn told_lines(&self) -> u64
+        ensures { result ≡ told_lines self.now.imported }
+    {
+        let put = self.imported.pairs.saturating_add(self.imported.full);
+        put.saturating_add(self.imported.rejected)
+    }
+
+    // Takes a line amid a text.
+    fn take_amid<S: ImportedStore, L: Rejects>(
+        &mut self,
+        read: &Line,
+        line: &[u8],
+        store: &mut S,
+        listener: &mut L,
+    ) -> Result<(), ImportFault>
+        ensures { OnOk result (TakesAmid S.gives S.saves L.told read.now line.now
+            (record { taking = self.old; store = store.old; listener = listener.old })
+            (record { taking = self.new; store = store.new; listener = listener.new })) }
+    {
+        match read {
+            Line::Pair { key, value } => return self.put(key, value, line, store, listener),
+            Line::Empty => {}
+            Line::Wrong(wrong) => self.reject(Rejection::Wrong(*wrong), line, listener),
+            Line::Opening(_) | Line::End(_) => self.reject(Rejection::Misplaced, line, listener),
+        }
+        Ok(())
+    }
+
+    // Puts a pair, and commits where that is due.
+    fn put<S: ImportedStore, L: Rejects>(
+        &mut self,
+        key: &Key,
+        value: &Value,
+        line: &[u8],
+        store: &mut S,
+        listener: &mut L,
+    ) -> Result<(), ImportFault>
+        ensures { OnOk result (Puts S.gives S.saves L.told key.now value.now line.now
+            (record { taking = self.old; store = store.old; listener = listener.old })
+            (record { taking = self.new; store = store.new; listener = listener.new })) }
+    {
+        match store.put(key.as_bytes(), value.as_bytes())? {
+            Added::Full => {
+                self.imported.full = self.imported.full.saturating_add(1);
+                listener.reject(self.imported.lines, Rejection::Full, line);
+                Ok(())
+            }
+            Added::Put => {
+                self.imported.pairs = self.imported.pairs.saturating_add(1);
+                self.unsaved = self.unsaved.saturating_add(1);
+                self.save_batch(store)
+            }
+        }
+    }
+
+    // Commits where as many pairs are put as one batch has.
+    fn save_batch<S: ImportedStore>(&mut self, store: &mut S) -> Result<(), ImportFault>
+        ensures { OnOk result (SavesBatch S.saves self.old store.old self.new store.new) }
+    {
+        if self.options.is_atomic || self.unsaved < self.options.batch {
+            return Ok(());
+        }
+        self.save(store)
+    }
+
+    // Commits.
+    fn save<S: ImportedStore>(&mut self, store: &mut S) -> Result<(), ImportFault>
+        ensures { OnOk result ((self.new ≡ saved self.old) × S.saves store.old store.new) }
+    {
+        store.commit()?;
+        self.unsaved = 0;
+        Ok(())
+    }
+
+    // Counts a line that is rejected, and tells of it.
+    fn reject<L: Rejects>(&mut self, cause: Rejection, line: &[u8], listener: &mut L)
+        ensures taking { self.new ≡ rejected_counted self.old }
+        ensures told { L.told listener.old self.old.imported.lines cause line.now listener.new }
+    {
+        self.imported.rejected = self.imported.rejected.saturating_add(1);
+        listener.reject(self.imported.lines, cause, line);
+    }
+
+    // Ends an import: commits what isn't, or leaves all that was put uncommitted where all or none is to be.
+    pub(crate) fn finish<S: ImportedStore>(
+        &mut self,
+        store: &mut S,
+    ) -> Result<Imported, ImportFault>
+        ensures { IfOk result (λ imported. Finishes S.saves self.old store.old imported store.new) }
+    {
+        if self.options.is_atomic && self.is_amiss() {
+            return Ok(self.imported);
+        }
+        self.save(store)?;
+        self.imported.is_committed = true;
+        Ok(self.imported)
+    }
+
+    // Whether something of the text wasn't put.
+    fn is_amiss(&self) -> bool
+        ensures { result ≡ is_amiss self.now.imported }
+    {
+        self.imported.rejected != 0 || self.imported.full != 0 || self.imported.is_cut_off
+    }
+}
+
+// The format that a text's first line opens with.
+fn first_opening(is_first: bool, read: &Line) -> Option<PairFormat>
+    ensures { result ≡ first_opening is_first read.now }
+{
+    match read {
+        Line::Opening(format) if is_first => Some(*format),
+        _ => None,
+    }
+}
+
+// Whether a line is the end of so many.
+fn is_right_end(count: u64, read: &Line) -> bool
+    ensures { result ≡ is_right_end count read.now }
+{
+    match read {
+        Line::End(number) => *number == count,
+        _ => false,
+    }
+}
