@@ -25,12 +25,7 @@ pub fn share_soon(rt: &HostRuntime, file: &File, seconds: u64) -> Result<(), InP
     take_soon(rt, file, LockWay::Shared, seconds)
 }
 
-fn take_soon(
-    rt: &HostRuntime,
-    file: &File,
-    way: LockWay,
-    seconds: u64,
-) -> Result<(), InPlaceFault>
+fn take_soon(rt: &HostRuntime, file: &File, way: LockWay, seconds: u64) -> Result<(), InPlaceFault>
     ensures err { IfErr result IsLockFault }
 {
     match lock_within(rt, file, way, seconds) {
