@@ -2,3 +2,5 @@
 pub mod Longest
 -- of gathering: pages whose shapes are gathered
 pub mod Shapes
+-- of text: what is told of the items of a list
+pub mod Told

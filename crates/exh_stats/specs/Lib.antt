@@ -1,3 +1,4 @@
--- what is counted of a page, and what a file's numbers are
+-- what is counted of a page, what a file's numbers are, and their texts
 pub mod Shape
 pub mod Stats
+pub mod Text
