@@ -2,3 +2,4 @@
 pub mod LineReader
 pub mod Counting
 pub mod Imports
+pub mod Pairs

@@ -1,6 +1,7 @@
 //! The import of a text, line by line.
 ghost use Rattle.std.specs.Prelude.{◌≡◌, ◌≢◌, ℕ, List, [], IfOk, IfSome, IsFalse, IsTrue, OnOk};
 ghost use Rattle.exh_import.specs.Imports.{Imports, IsTextOf, TakesLine};
+ghost use Rattle.exh_import.specs.Pairs.{ArePut, pairs_put};
 ghost use Rattle.exh_import.specs.LineReader.{EndsRight, IsOver, TakesNext, waiting};
 
 use crate::line_reader::LineReader;
@@ -27,8 +28,12 @@ pub fn import<R: Read, S: ImportedStore, L: Rejects>(
     options: ImportOptions,
     listener: &mut L,
 ) -> Result<Imported, ImportFault>
-    ensures { IfOk result (λ imported. (lines : List (List ℕ)) × (IfSome (R.remaining reader.old) (IsTextOf lines)
+    ensures imports { IfOk result (λ imported. (lines : List (List ℕ)) × (IfSome (R.remaining reader.old) (IsTextOf lines)
         × Imports S.gives S.saves L.told options lines store.old listener.old imported store.new listener.new)) }
+
+    // The pairs of the text's lines are put in order, with commits between.
+    ensures pairs { IfOk result (λ imported. (lines : List (List ℕ)) × (IfSome (R.remaining reader.old) (IsTextOf lines)
+        × ArePut S.gives S.saves (pairs_put options lines) store.old store.new)) }
 {
     let mut lines = LineReader::new(alloc, reader);
     let mut taking = Taking::new(options);

@@ -5,6 +5,7 @@ use Rattle.exh_import.specs.Counting.{starts}
 use Rattle.exh_import.specs.Imports.{Point, TakesLine}
 use Rattle.exh_import.specs.LineReader.{text_left}
 use Rattle.exh_import.proofs.Texts.{IsAmid, IsWhole, amid_start, amid_step, if_ok_map, whole_start, whole_step}
+use Rattle.exh_import.proofs.Puts.{imports_put}
 use Rattle.exh_import.proofs.importing.import.Goals as goal
 
 pub lines-init : goal.lines-init
@@ -23,11 +24,23 @@ lines-init g c =
       amid = λ is. (c.in_ok-is_over.ensures.some is, subst (λ (t : Taking). IsAmid G V T R known start now (record { taking = t; store = c.args.store.now; listener = c.args.listener.now })) (sym c.new-taking.ensures) (amid_start G V T R known start now kept));
     }
 
-pub returns-then-is_over : goal.returns-then-is_over
-returns-then-is_over g c =
+pub returns-then-is_over-clause-imports : goal.returns-then-is_over-clause-imports
+returns-then-is_over-clause-imports g c =
     let whole = c.lines.invariant.over c.if-is_over.true in
     if_ok_map c.finish.result _ _ c.finish.ensures (λ imported finishes.
     (whole.lines, (whole.text, record { next = record { taking = c.lines.taking; store = c.lines.store; listener = c.lines.listener }; takes = whole.takes; finishes = finishes; listener_is = refl })))
+
+pub returns-then-is_over-clause-pairs : goal.returns-then-is_over-clause-pairs
+returns-then-is_over-clause-pairs g c =
+    let whole = c.lines.invariant.over c.if-is_over.true in
+    if_ok_map c.finish.result _ _ c.finish.ensures (λ imported finishes. (
+      whole.lines,
+      (
+        whole.text,
+        imports_put g.S.ImportedStore.gives g.S.ImportedStore.saves g.L.Rejects.told c.args.options c.args.store.now c.args.listener.now whole.lines imported c.finish.new.store c.lines.listener
+            (record { next = record { taking = c.lines.taking; store = c.lines.store; listener = c.lines.listener }; takes = whole.takes; finishes = finishes; listener_is = refl }),
+      ),
+    ))
 
 pub take_next-requires-clause-ends : goal.take_next-requires-clause-ends
 take_next-requires-clause-ends g c = c.lines.invariant.ends
