@@ -8,6 +8,7 @@ use exh_run::{Run, refuse_reading, tell_text};
 use exh_stats::{Stats, json_of, stats_at, text_of};
 use exh_stream::Output;
 use exhash::StoreError;
+use std::alloc::{AllocError, Global};
 use std::io::Write;
 
 /// Prints what one state of the page file has and takes, as lines or as JSON.
@@ -51,11 +52,15 @@ fn tell_stats<W: Write>(
     ensures same_writer { SameWriter output.old output.new }
     ensures ends { SaysText (held W.contents output.old) (held W.contents output.new) (writer_failed output.new) result }
 {
-    let alloc = run.rt.alloc();
-    let text = if is_json {
+    let text = stats_text(run.rt.alloc(), is_json, stats);
+    tell_text(run, text, Status::Done, false, output)
+}
+
+// What is printed of it.
+fn stats_text(alloc: Global, is_json: bool, stats: &Stats) -> Result<Vec<u8>, AllocError> {
+    if is_json {
         json_of(alloc, stats)
     } else {
         text_of(alloc, stats)
-    };
-    tell_text(run, text, Status::Done, false, output)
+    }
 }

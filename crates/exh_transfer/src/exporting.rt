@@ -6,6 +6,7 @@ ghost use Rattle.exh_transfer.specs.Exports.{ExportEnds, export_ended, export_te
 ghost use Rattle.exh_answer.specs.declared.status.Status.TheVariants.{Done};
 
 use exh_answer::Status;
+use exh_page::{Key, Value};
 use exh_pair_text::{PairFormat, push_end, push_opening, push_pair};
 use exh_run::{Run, refuse_reading, tell_text};
 use exh_stream::Output;
@@ -101,7 +102,20 @@ fn push_pairs(
     ensures { OnOk result (text.new.items ≡ text.old.items ++ flat_map (line_of_pair format is_hex) pairs.now) }
 {
     for (key, value) in pairs.iter() {
-        push_pair(text, format, is_hex, key.as_bytes(), value.as_bytes())?;
+        push_line(text, format, is_hex, &key, &value)?;
     }
     Ok(())
+}
+
+// Adds the line of a pair.
+fn push_line(
+    text: &mut Vec<u8>,
+    format: PairFormat,
+    is_hex: bool,
+    key: &Key,
+    value: &Value,
+) -> Result<(), AllocError>
+    ensures { OnOk result (text.new.items ≡ text.old.items ++ line_of_pair format is_hex (key.now, value.now)) }
+{
+    push_pair(text, format, is_hex, key.as_bytes(), value.as_bytes())
 }
