@@ -111,7 +111,7 @@ struct Bytes {
 impl Source for Bytes {
     ghost leaves = { λ old new. new ≡ old };
 
-    ghost fails = { λ _ fault. fault ≡ Writer };
+    ghost fails = { λ _ _ fault. fault ≡ Writer };
 
     ghost bytes = { λ source. source.bytes.items };
 

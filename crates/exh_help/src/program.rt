@@ -84,15 +84,15 @@ convert only an empty one. It is there whole until the new one is whole and on
 the disk, and where that fails it stays. The new one is another file: it has the
 old one's mode and, where the system allows it, owner and group, but not its
 access lists, its extended attributes and its hard links; its group may do what
-the mode says.
+the mode says, and nothing where it isn't the old one's.
 One run at a time saves to a file. put, del, swap, import and compact lock it
 from before they read it until it is saved, load, serve and convert to save it;
 a file that another process has locked isn't saved to, nor is one on a file
-system without locks. load and serve wait 5 seconds for the lock. Who may read a
-file may lock it, and so keep others from saving to it. Of two runs that opened
-one file the later to save is refused, so that nothing that was saved is lost.
-Programs that write without these locks are noticed only if they are done before
-the save.
+system without locks. load, serve and convert wait 5 seconds for the lock. Who
+may read a file may lock it, and so keep others from saving to it; who may not
+write it can't save over it. Of two runs that opened one file the later to save
+is refused, so that nothing that was saved is lost. Programs that write without
+these locks are noticed only if they are done before the save.
 Page files of the first version, of the second and of the third are read, and
 told alike. One of the third that was opened, and is saved at the same path, is
 saved as one of the third; what is saved otherwise is of the second, but for

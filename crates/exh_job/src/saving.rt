@@ -14,7 +14,7 @@ use exh_frames::FileStore;
 use exh_in_place::{Refused, save_in_place, settle_before};
 use exh_path::{DiskFault, OpenedFile, SystemDisk, look_at, save_at};
 use exh_stream::Output;
-use exh_system::{InPlaceFault, WAIT, above_limit};
+use exh_system::{InPlaceFault, WAIT, above_limit, file_size_limit};
 use std::{fs, io};
 
 /// Says on standard error why a path can't be saved to, where that can be told before the run.
@@ -43,7 +43,7 @@ pub fn save_at_path(
 {
     let path = save.path();
     let form = form_saved(path, held);
-    if let Some(above) = above_limit(rt, path, &wards.header(), form.is_some()) {
+    if let Some(above) = above_limit(file_size_limit(rt, path), &wards.header(), form.is_some()) {
         let _ = eprintln!(rt; "exhash: not saved to {path:?}: {above}");
         return Status::Refused;
     }
@@ -104,7 +104,7 @@ pub fn save_new(
         return Status::Refused;
     }
     let is_placed = matches!(version, PageFileVersion::Third);
-    if let Some(above) = above_limit(rt, path, &wards.header(), is_placed) {
+    if let Some(above) = above_limit(file_size_limit(rt, path), &wards.header(), is_placed) {
         let _ = eprintln!(rt; "exhash: not saved to {path:?}: {above}");
         return Status::Refused;
     }

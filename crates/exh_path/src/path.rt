@@ -1,4 +1,4 @@
-ghost use Rattle.std.specs.Prelude.{◌≡◌, ◌⊎◌, ℕ, ⊤, IfErr, IfNone, IfOk, IfSome, List, OnOk};
+ghost use Rattle.std.specs.Prelude.{◌≡◌, ◌⊎◌, ℕ, IfErr, IfNone, IfOk, IfSome, List, OnOk};
 ghost use Rattle.exh_disk.specs.declared.stage.Stage.TheVariants.{Settled};
 ghost use Rattle.std.specs.Io.KnownBytes.{Appends};
 ghost use Rattle.exh_path.specs.declared.path.TheConstants.{MAGIC};
@@ -7,6 +7,7 @@ ghost use Rattle.exh_saving.specs.Replaced.{LeadsToDevice, MaySave};
 ghost use Rattle.exh_saving.specs.Saved.{IsSaved, IsWrittenTo, SavesAt};
 ghost use Rattle.exh_saving.specs.Unsaved.{IsSaveRefused, MayPlace};
 ghost use Rattle.exh_file.specs.Draft.{IsDraftLeft, bytes_in};
+ghost use Rattle.exh_path.specs.WardsFault.{IsWardsFault};
 
 use crate::wards::{Metered, Wards};
 use exh_disk::{Disk, DiskFault, Seen};
@@ -30,7 +31,7 @@ pub fn look_at<D: Disk>(
     seen: Option<&Seen<D::Opened>>,
 ) -> Result<(), DiskFault>
     ensures free { OnOk result (MaySave D.leads D.answers D.finds MAGIC path.now seen.entry) }
-    ensures err { IfErr result (IsRefused D.answers MAGIC path.now seen.entry) }
+    ensures err { IfErr result (IsRefused D.leads D.answers D.finds MAGIC path.now seen.entry) }
     ensures crash { D.history disk.new ≡ D.history disk.old }
 {
     look(alloc, disk, &target_at(path, seen))
@@ -53,7 +54,7 @@ pub fn save_at<D: Disk, P: Pages + Drop, T: Terminal>(
         Appends D.unwritten (D.holds file) (bytes_in draft))) }
     ensures settled { IfOk result.0 (λ saved. IfSome saved.file (λ file. D.stage file ≡ Settled)) }
     ensures device { IfOk result.0 (λ saved. IfNone saved.file (LeadsToDevice D.answers path.now × IsWrittenTo D.Device.contents (bytes_in draft))) }
-    ensures err { IfErr result.0 (IsSaveRefused D.leads D.answers D.finds (λ _. ⊤) MAGIC path.now seen.entry) }
+    ensures err { IfErr result.0 (IsSaveRefused D.leads D.answers D.finds (IsWardsFault draft result.1) MAGIC path.now seen.entry) }
     ensures wards { IsDraftLeft draft result.1 }
     // At each moment of the call a crash leaves at the path, without links, what it could leave there before, or these wards.
     // A file comes there only where nothing is, or what may be replaced.

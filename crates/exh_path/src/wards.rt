@@ -1,5 +1,5 @@
-ghost use Rattle.std.specs.Prelude.{⊤};
 ghost use Rattle.exh_file.specs.Draft.{IsDraftLeft, bytes_in};
+ghost use Rattle.exh_path.specs.WardsFault.{IsWardsFault};
 
 use exh_file::{Draft, SaveFault};
 use exh_saving::{Source, SourceFault, Watch};
@@ -16,8 +16,7 @@ pub(crate) struct Wards<P: Pages + Drop> {
 impl<P: Pages + Drop> Source for Wards<P> {
     ghost leaves = { λ old new. IsDraftLeft old.draft new.draft };
 
-    // No clause of a draft's writing tells of refused growths or of pages that are out of reach.
-    ghost fails = { λ _ _. ⊤ };
+    ghost fails = { λ old new. IsWardsFault old.draft new.draft };
 
     ghost bytes = { λ wards. bytes_in wards.draft };
 

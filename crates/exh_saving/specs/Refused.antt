@@ -1,13 +1,13 @@
 -- Why a path can't be saved to, by what a disk answered.
-use Rattle.std.specs.Prelude.{◌≡◌, ◌≢◌, ◌⊎◌, ℕ, [], IsSomeAnd, List, Option}
+use Rattle.std.specs.Prelude.{◌≡◌, ◌≢◌, ◌⊎◌, ℕ, [], IfErr, IsOk, IsSomeAnd, List, Option}
 use Rattle.std.specs.Borrow.{Bor}
 use Rattle.std.specs.IoError.{error_kind}
 use Rattle.std.specs.declared.io.Error.{Error}
 use Rattle.std.specs.declared.io.ErrorKind.TheVariants.{NotFound}
 use Rattle.exh_disk.specs.Answer.{Answer, Begins, Fails, IsTold, Leads, Named, Runs}
-use Rattle.exh_disk.specs.Folder.{IsNameIn}
+use Rattle.exh_disk.specs.Folder.{IsFolderOf, IsNameIn}
 use Rattle.exh_disk.specs.Found.{IsClosedTo, IsUnchanged}
-use Rattle.exh_disk.specs.Seen.{IsKept}
+use Rattle.exh_disk.specs.Seen.{IsKept, MayBeSeen, MayReplace}
 use Rattle.exh_disk.specs.declared.fault.Call.TheVariants.{Ask, Make, Open}
 use Rattle.exh_disk.specs.declared.fault.DiskFault.{DiskFault}
 use Rattle.exh_disk.specs.declared.fault.DiskFault.TheVariants.{Changed, ClosedFolder, DanglingLink, Folder, Memory, NoFileName, NoPageFile}
@@ -16,6 +16,7 @@ use Rattle.exh_disk.specs.declared.found.Head.{Head}
 use Rattle.exh_disk.specs.declared.found.Kind.TheVariants.{Folder as FolderKind, Link, Regular}
 use Rattle.exh_disk.specs.declared.found.Runner.{Runner}
 use Rattle.exh_disk.specs.declared.seen.Seen.{Seen}
+use Rattle.exh_saving.specs.Replaced.{IsFree, IsReplaceable}
 
 -- something has a name: a link, which leads to nothing; or what came meanwhile
 abbrev pub IsTaken : (Answer → Type 0) → List ℕ → DiskFault → Type 0
@@ -43,11 +44,20 @@ IsFileRefused answers magic path there fault = ((fault ≡ Changed) × (there.ki
 
 -- what has a name may not be replaced, or asking failed
 abbrev pub IsNameRefused : (Answer → Type 0) → List ℕ → List ℕ → DiskFault → Type 0
-IsNameRefused answers magic path fault = IsTold answers Ask fault ⊎ ((there : Found) × IsFileRefused answers magic path there fault)
+IsNameRefused answers magic path fault = IsTold answers Ask fault
+    ⊎ ((there : Found) × answers (Named path there) × IsFileRefused answers magic path there fault)
 
--- what is at a path isn't replaced, by how it begins or by the file that was opened
-abbrev pub IsOldRefused : {O : Type 0} → (Answer → Type 0) → List ℕ → Option (Bor (Seen O)) → List ℕ → DiskFault → Type 0
-IsOldRefused answers magic seen path fault = IsNameRefused answers magic path fault ⊎ IsSomeAnd seen (λ seen. IsKept seen.now fault)
+-- An opened file keeps what is at a path from being replaced: the disk said what it was, and by that this may not be; or it
+-- said that not, and what is to be saved to may be this file.
+abbrev pub IsKeptAt : {O : Type 0} → (Answer → Type 0) → (O → Found → Type 0) → Seen O → List ℕ → List ℕ → Option Found → DiskFault → Type 0
+IsKeptAt answers finds seen named path there fault = IsKept seen fault
+    × (IsOk seen.about → MayReplace finds seen named path there → ⊥)
+    × IfErr seen.about (λ _. MayBeSeen answers finds seen named there)
+
+-- what is at a path isn't replaced, by how it begins, or else by the file that was opened
+abbrev pub IsOldRefused : {O : Type 0} → (Answer → Type 0) → (O → Found → Type 0) → List ℕ → List ℕ → Option (Bor (Seen O)) → List ℕ → DiskFault → Type 0
+IsOldRefused answers finds magic named seen path fault = IsNameRefused answers magic path fault
+    ⊎ ((there : Option Found) × IsReplaceable answers magic path there × IsSomeAnd seen (λ seen. IsKeptAt answers finds seen.now named path there fault))
 
 -- a folder is none, or closed to whom the program runs for; or asking failed
 abbrev pub IsFolderRefused : (Answer → Type 0) → List ℕ → DiskFault → Type 0
@@ -55,8 +65,12 @@ IsFolderRefused answers folder fault = ((found : Found) × answers (Leads folder
     × ((found.kind ≢ FolderKind) ⊎ ((runner : Runner) × answers (Runs runner) × IsClosedTo found runner)))
     ⊎ IsTold answers Make fault
 
--- a path can't be saved to: by itself, by what is there where it leads, or by its folder
-abbrev pub IsRefused : {O : Type 0} → (Answer → Type 0) → List ℕ → List ℕ → Option (Bor (Seen O)) → DiskFault → Type 0
-IsRefused answers magic named seen fault = IsPathRefused answers named fault
-    ⊎ ((whole : List ℕ) × IsOldRefused answers magic seen whole fault)
-    ⊎ ((folder : List ℕ) × IsFolderRefused answers folder fault)
+-- a path without links can't be saved to: by what is there; or, where that may be replaced, by its folder
+abbrev pub IsPlaceRefused : {O : Type 0} → (Answer → Type 0) → (O → Found → Type 0) → List ℕ → List ℕ → Option (Bor (Seen O)) → List ℕ → DiskFault → Type 0
+IsPlaceRefused answers finds magic named seen path fault = IsOldRefused answers finds magic named seen path fault
+    ⊎ (IsFree answers finds magic named seen path × ((folder : List ℕ) × IsFolderOf path folder × IsFolderRefused answers folder fault))
+
+-- a path can't be saved to: by itself, or by what is where it leads
+abbrev pub IsRefused : {O : Type 0} → (List ℕ → List ℕ → Type 0) → (Answer → Type 0) → (O → Found → Type 0) → List ℕ → List ℕ → Option (Bor (Seen O)) → DiskFault → Type 0
+IsRefused leads answers finds magic named seen fault = IsPathRefused answers named fault
+    ⊎ ((whole : List ℕ) × ((whole ≡ named) ⊎ leads named whole) × IsPlaceRefused answers finds magic named seen whole fault)

@@ -37,12 +37,13 @@ abbrev pub IsUnheld : (Answer → Type 0) → DiskFault → Type 0
 IsUnheld answers fault = IsTold answers Open fault ⊎ IsHoldTold answers fault
 
 -- what is at a path isn't replaced, or its lock wasn't had
-abbrev pub IsOldUnheld : {O : Type 0} → (Answer → Type 0) → List ℕ → Option (Bor (Seen O)) → List ℕ → DiskFault → Type 0
-IsOldUnheld answers magic seen path fault = IsOldRefused answers magic seen path fault ⊎ IsUnheld answers fault
+abbrev pub IsOldUnheld : {O : Type 0} → (Answer → Type 0) → (O → Found → Type 0) → List ℕ → List ℕ → Option (Bor (Seen O)) → List ℕ → DiskFault → Type 0
+IsOldUnheld answers finds magic named seen path fault = IsOldRefused answers finds magic named seen path fault
+    ⊎ IsUnheld answers fault
 
 -- at the second look what is there isn't replaced, or isn't what it was; or permissions weren't given
-abbrev pub IsUnprepared : {O : Type 0} → (Answer → Type 0) → List ℕ → Option (Bor (Seen O)) → List ℕ → Option Found → DiskFault → Type 0
-IsUnprepared answers magic seen path old fault = IsOldRefused answers magic seen path fault
+abbrev pub IsUnprepared : {O : Type 0} → (Answer → Type 0) → (O → Found → Type 0) → List ℕ → List ℕ → Option (Bor (Seen O)) → List ℕ → Option Found → DiskFault → Type 0
+IsUnprepared answers finds magic named seen path old fault = IsOldRefused answers finds magic named seen path fault
     ⊎ ((there : Option Found) × IsReplaceable answers magic path there × (IsStill old there → ⊥) × (fault ≡ Changed))
     ⊎ IsTold answers Permit fault
 
@@ -73,10 +74,10 @@ IsUnplaced leads answers named path name fault = IsTold answers Synchronize faul
 -- second look, by what is to be saved, or as the file gets its path.
 abbrev pub IsUnsaved : {O : Type 0} → (List ℕ → List ℕ → Type 0) → (Answer → Type 0) → (O → Found → Type 0) → (SourceFault → Type 0)
     → List ℕ → List ℕ → Option (Bor (Seen O)) → List ℕ → DiskFault → Type 0
-IsUnsaved leads answers finds fails magic named seen path fault = IsOldUnheld answers magic seen path fault
+IsUnsaved leads answers finds fails magic named seen path fault = IsOldUnheld answers finds magic named seen path fault
     ⊎ ((old : Option Found) × MayTake answers finds magic named seen path old
     × (IsUnclaimed answers fault
-    ⊎ IsUnprepared answers magic seen path old fault
+    ⊎ IsUnprepared answers finds magic named seen path old fault
     ⊎ IsUnwritten fails fault
     ⊎ ((name : List ℕ) × IsUnplaced leads answers named path name fault)))
 

@@ -40,7 +40,7 @@ pub(crate) fn save_beside<D: Disk, S: Source, V: Watch>(
     ensures placed { IfOk result.0 (λ saved. D.history disk.new path.now ≡ saved_history (D.history disk.old path.now) (D.holds saved.0) saved.1) }
     ensures crash { OnErr result.0 (D.history disk.new path.now ≡ D.history disk.old path.now) }
     ensures free { OnOk result.0 (MayPlace D.answers D.finds target.now.magic target.now.path.now target.now.seen path.now) }
-    ensures err { IfErr result.0 (IsUnsaved D.leads D.answers D.finds (S.fails source) target.now.magic target.now.path.now target.now.seen path.now) }
+    ensures err { IfErr result.0 (IsUnsaved D.leads D.answers D.finds (S.fails source result.1) target.now.magic target.now.path.now target.now.seen path.now) }
     ensures wrote { OnOk result.0 (S.leaves source result.1) }
     ensures source { (result.1 ≡ source) ⊎ S.leaves source result.1 }
 {
@@ -148,7 +148,7 @@ fn fill<D: Disk, S: Source, V: Watch>(
     ensures stage { is_fillable (D.stage result.0) ≡ true }
     ensures source { (result.2 ≡ source) ⊎ S.leaves source result.2 }
     ensures again { OnOk result.1 (IsAgain D.answers D.finds target.now.magic target.now.path.now target.now.seen path.now old) }
-    ensures err { IfErr result.1 (λ fault. IsUnprepared D.answers target.now.magic target.now.seen path.now old fault ⊎ IsUnwritten (S.fails source) fault) }
+    ensures err { IfErr result.1 (λ fault. IsUnprepared D.answers D.finds target.now.magic target.now.path.now target.now.seen path.now old fault ⊎ IsUnwritten (S.fails source result.2) fault) }
     ensures wrote { OnOk result.1 (S.leaves source result.2) }
     ensures bytes { OnOk result.1 (Appends D.unwritten (D.holds result.0) (S.bytes source)) }
     ensures crash { D.history disk.new ≡ D.history disk.old }
@@ -173,7 +173,7 @@ fn prepare<D: Disk>(
 ) -> Result<(), DiskFault>
     requires { D.stage file.old ≡ Empty }
     ensures again { OnOk result (IsAgain D.answers D.finds target.now.magic target.now.path.now target.now.seen path.now old) }
-    ensures err { IfErr result (IsUnprepared D.answers target.now.magic target.now.seen path.now old) }
+    ensures err { IfErr result (IsUnprepared D.answers D.finds target.now.magic target.now.path.now target.now.seen path.now old) }
     ensures stage { is_fillable (D.stage file.new) ≡ true }
     ensures bytes { D.holds file.new ≡ D.holds file.old }
     ensures crash { D.history disk.new ≡ D.history disk.old }

@@ -19,7 +19,7 @@ pub fn look<D: Disk>(
     target: &Target<'_, D::Opened>,
 ) -> Result<(), DiskFault>
     ensures free { OnOk result (MaySave D.leads D.answers D.finds target.now.magic target.now.path.now target.now.seen) }
-    ensures err { IfErr result (IsRefused D.answers target.now.magic target.now.path.now target.now.seen) }
+    ensures err { IfErr result (IsRefused D.leads D.answers D.finds target.now.magic target.now.path.now target.now.seen) }
     ensures crash { D.history disk.new ≡ D.history disk.old }
 {
     match path_to(alloc, disk, target.path)? {

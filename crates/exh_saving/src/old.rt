@@ -27,7 +27,7 @@ pub(crate) fn hold_old<D: Disk>(
     target: &Target<'_, D::Opened>,
 ) -> Result<Option<Old<D::Held>>, DiskFault>
     ensures free { IfOk result (λ old. MayTake D.answers D.finds target.now.magic target.now.path.now target.now.seen path.now (option_map (λ held. held.found) old)) }
-    ensures err { IfErr result (IsOldUnheld D.answers target.now.magic target.now.seen path.now) }
+    ensures err { IfErr result (IsOldUnheld D.answers D.finds target.now.magic target.now.path.now target.now.seen path.now) }
     ensures crash { D.history disk.new ≡ D.history disk.old }
 {
     let Some(found) = old_at(disk, path, target)? else {

@@ -83,7 +83,7 @@ pub(crate) fn old_at<D: Disk>(
     ensures there { IfOk result (IsReplaceable D.answers target.now.magic path.now) }
     ensures ok { IfOk result (λ there. IfSome target.now.seen (λ seen. MayReplace D.finds seen.now target.now.path.now path.now there)) }
     ensures free { OnOk result (IsFree D.answers D.finds target.now.magic target.now.path.now target.now.seen path.now) }
-    ensures err { IfErr result (IsOldRefused D.answers target.now.magic target.now.seen path.now) }
+    ensures err { IfErr result (IsOldRefused D.answers D.finds target.now.magic target.now.path.now target.now.seen path.now) }
     ensures crash { D.history disk.new ≡ D.history disk.old }
 {
     let there = replaceable_at(disk, path, target.magic)?;

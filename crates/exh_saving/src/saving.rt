@@ -41,7 +41,7 @@ pub fn save<D: Disk, S: Source, V: Watch>(
     ensures bytes { IfOk result.0 (λ saved. IfSome saved.file (λ file. Appends D.unwritten (D.holds file) (S.bytes source))) }
     ensures settled { IfOk result.0 (λ saved. IfSome saved.file (λ file. D.stage file ≡ Settled)) }
     ensures device { IfOk result.0 (λ saved. IfNone saved.file (LeadsToDevice D.answers target.now.path.now × IsWrittenTo D.Device.contents (S.bytes source))) }
-    ensures err { IfErr result.0 (IsSaveRefused D.leads D.answers D.finds (S.fails source) target.now.magic target.now.path.now target.now.seen) }
+    ensures err { IfErr result.0 (IsSaveRefused D.leads D.answers D.finds (S.fails source result.1) target.now.magic target.now.path.now target.now.seen) }
     ensures wrote { OnOk result.0 (S.leaves source result.1) }
     ensures source { (result.1 ≡ source) ⊎ S.leaves source result.1 }
     // At each moment of the call a crash leaves at the path, without links, what it could leave there before, or the new file.
@@ -70,7 +70,7 @@ fn save_file<D: Disk, S: Source, V: Watch>(
     ensures settled { IfOk result.0 (λ saved. IfSome saved.file (λ file. D.stage file ≡ Settled)) }
     ensures written { IfOk result.0 (λ saved. IsSome saved.file) }
     ensures free { OnOk result.0 (MayPlace D.answers D.finds target.now.magic target.now.path.now target.now.seen path.now) }
-    ensures err { IfErr result.0 (IsUnsaved D.leads D.answers D.finds (S.fails source) target.now.magic target.now.path.now target.now.seen path.now) }
+    ensures err { IfErr result.0 (IsUnsaved D.leads D.answers D.finds (S.fails source result.1) target.now.magic target.now.path.now target.now.seen path.now) }
     ensures wrote { OnOk result.0 (S.leaves source result.1) }
     ensures source { (result.1 ≡ source) ⊎ S.leaves source result.1 }
     ensures crash { SavesAt (D.history disk.old path.now) (D.history disk.new path.now) D.holds (IsSaved D.unwritten (S.bytes source)) result.0 }
@@ -97,7 +97,7 @@ fn save_to_device<D: Disk, S: Source, V: Watch>(
 ) -> (Result<Saved<D::File>, DiskFault>, S)
     ensures file { IfOk result.0 (λ saved. saved.file ≡ None) }
     ensures bytes { OnOk result.0 (IsWrittenTo D.Device.contents (S.bytes source)) }
-    ensures err { IfErr result.0 (IsDeviceUnwritten D.answers (S.fails source) path.now) }
+    ensures err { IfErr result.0 (IsDeviceUnwritten D.answers (S.fails source result.1) path.now) }
     ensures wrote { OnOk result.0 (S.leaves source result.1) }
     ensures source { (result.1 ≡ source) ⊎ S.leaves source result.1 }
     ensures crash { D.history disk.new ≡ D.history disk.old }

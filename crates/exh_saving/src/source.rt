@@ -11,8 +11,8 @@ pub trait Source: Drop {
     /// What writing leaves of it.
     ghost leaves: { Self → Self → Type 0 };
 
-    /// Why writing may not give all.
-    ghost fails: { Self → SourceFault → Type 0 };
+    /// Why writing gives not all, of what is saved as it was, and as writing left it.
+    ghost fails: { Self → Self → SourceFault → Type 0 };
 
     /// The bytes that writing gives.
     ghost bytes: { Self → List ℕ };
@@ -23,7 +23,7 @@ pub trait Source: Drop {
     /// out of reach.
     fn write_to<W: Write>(self, writer: &mut W) -> (Result<(), SourceFault>, Self)
         ensures leaves { leaves self result.1 }
-        ensures fails { IfErr result.0 (fails self) }
+        ensures fails { IfErr result.0 (fails self result.1) }
         ensures written { OnOk result.0 (Appends (W.contents writer.old) (W.contents writer.new) (bytes self)) };
 }
 

@@ -15,7 +15,7 @@ pub(crate) fn write_source<W: Write + Drop, S: Source, V: Watch>(
     watch: &V,
 ) -> (Result<(), DiskFault>, S, W)
     ensures leaves { S.leaves source result.1 }
-    ensures err { IfErr result.0 (IsUnwritten (S.fails source)) }
+    ensures err { IfErr result.0 (IsUnwritten (S.fails source result.1)) }
     ensures written { OnOk result.0 (Appends (W.contents writer) (W.contents result.2) (S.bytes source)) }
 {
     let mut keeper = FaultKeeper::new(writer, watch);

@@ -1,5 +1,5 @@
 //! The system's limit on the size of a file, which a save must not come to.
-ghost use Rattle.std.specs.Prelude.{◌≡◌, ◌≤◌, ◌*◌, ◌^◌, IfNone, IfSome};
+ghost use Rattle.std.specs.Prelude.{◌≡◌, ◌≤◌, ◌*◌, ◌^◌, IfNone, IfSome, Some};
 ghost use Rattle.std.specs.List.{sum};
 ghost use Rattle.exh_codec.specs.declared.block.TheConstants.{BLOCK_LEN};
 ghost use Rattle.exh_system.specs.SizeLimit.{IsAbove, blocks_told, first_word, len_told, limit_told, placed_blocks};
@@ -29,31 +29,24 @@ pub struct AboveLimit {
     limit: u64,
 }
 
-/// Whether the page file of a header would be above the system's limit on the size of files, where it tells one. What a path
-/// leads to that is no regular file, as a pipe or a device, has none. The file is of version 3, or of the version that is
-/// written.
-pub fn above_limit(
-    rt: &HostRuntime,
-    path: &str,
-    header: &Header,
-    is_placed: bool,
-) -> Option<AboveLimit>
-    ensures { IfSome result (IsAbove header.now is_placed) }
-{
+/// The system's limit on the size of the file of a path, in bytes, where it tells one. What a path leads to that is no
+/// regular file, as a pipe or a device, has none.
+pub fn file_size_limit(rt: &HostRuntime, path: &str) -> Option<u64> {
     let limit = limit_told(&limits(rt).ok()?)?;
-    let above = above(limit, header, is_placed)?;
     if is_no_regular(rt, path) {
         None
     } else {
-        Some(above)
+        Some(limit)
     }
 }
 
-// Whether the page file of a header would be above a limit.
-fn above(limit: u64, header: &Header, is_placed: bool) -> Option<AboveLimit>
-    ensures some { IfSome result (λ above. IsAbove header.now is_placed above × (above.limit ≡ limit)) }
-    ensures none { IfNone result (len_told header.now is_placed ≤ limit) }
+/// Whether the page file of a header would be above a limit, where there is one. The file is of version 3, or of the version
+/// that is written.
+pub fn above_limit(limit: Option<u64>, header: &Header, is_placed: bool) -> Option<AboveLimit>
+    ensures some { IfSome result (λ above. IsAbove header.now is_placed above × (limit ≡ Some above.limit)) }
+    ensures none { IfNone result (IfSome limit (λ limit. len_told header.now is_placed ≤ limit)) }
 {
+    let limit = limit?;
     let size = if is_placed {
         placed_len(header)
     } else {

@@ -16,7 +16,7 @@ use exh_map::{FileMap, StoreError};
 use exh_path::{OpenedFile, SystemDisk, SystemFile, open_above};
 use exh_pending::Pending;
 use exh_saving::Saved;
-use exh_system::{WAIT, above_limit, draw_stamp, front_of, is_at, lock_soon};
+use exh_system::{WAIT, above_limit, draw_stamp, file_size_limit, front_of, is_at, lock_soon};
 use std::fs::File;
 use std::io::{ErrorKind, Seek};
 use std::{fs, io};
@@ -120,7 +120,7 @@ impl HeldFile {
     /// `Unsynchronized`: it is saved, but a power failure may take it back. Others: nothing was saved, as they say.
     pub fn replace(self, rt: &HostRuntime, wards: Opened<FileStore>) -> Result<(), StoreError> {
         self.see_there(rt)?;
-        if let Some(above) = above_limit(rt, &self.path, &wards.header(), true) {
+        if let Some(above) = above_limit(file_size_limit(rt, &self.path), &wards.header(), true) {
             return Err(StoreError::AboveLimit(above));
         }
         let draft = draft_anew(rt, wards)?;
@@ -187,7 +187,7 @@ impl HeldFile {
 
     // Replaces the file by a new one, which is then held.
     fn save_whole(&mut self, rt: &HostRuntime, copy: Opened<FileStore>) -> Result<(), StoreError> {
-        if let Some(above) = above_limit(rt, &self.path, &copy.header(), false) {
+        if let Some(above) = above_limit(file_size_limit(rt, &self.path), &copy.header(), false) {
             return Err(StoreError::AboveLimit(above));
         }
         // The save takes the lock of the file that it replaces.
@@ -239,7 +239,7 @@ fn save_placed(
     ensures kept { KeepsMap map.old map.new }
     ensures settings { settings_in map.new ≡ settings_in map.old }
 {
-    if let Some(above) = above_limit(rt, path, &copy.header(), true) {
+    if let Some(above) = above_limit(file_size_limit(rt, path), &copy.header(), true) {
         return Err(StoreError::AboveLimit(above));
     }
     let lows = map.lows_grown(rt.alloc(), &form.lows)?;
