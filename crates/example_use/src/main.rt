@@ -2,8 +2,7 @@
 //! of one's own may begin as a copy of this one.
 #![tactic(auto)]
 
-use exhash::{Store, StoreError, Swap, USUAL, Value};
-use std::str;
+use exhash::{Store, StoreError, Swap, USUAL};
 
 // The page file.
 const PATH: &str = "people.exh";
@@ -16,16 +15,13 @@ fn main(rt: HostRuntime) -> Result<(), StoreError> {
         println!(rt; "bob was blue")?;
     }
     if let Some(value) = store.get(b"bob")? {
-        println!(rt; "bob is {}", text(&value))?;
+        let text = std::str::from_utf8(value.as_bytes()).unwrap_or("no text");
+        println!(rt; "bob is {text}")?;
     }
     store.commit()?;
     for (_, value) in store.pairs()?.iter() {
-        println!(rt; "{}", text(&value))?;
+        let text = std::str::from_utf8(value.as_bytes()).unwrap_or("no text");
+        println!(rt; "{text}")?;
     }
     Ok(())
-}
-
-// A value as text.
-fn text(value: &Value) -> &str {
-    str::from_utf8(value.as_bytes()).unwrap_or("no text")
 }
