@@ -1,4 +1,5 @@
 //! Copies of page files, made beside others that change them.
+ghost use Rattle.std.specs.Prelude.{⊤};
 
 use crate::BackupFault;
 use crate::beside::Beside;
@@ -115,6 +116,8 @@ struct Rest<'c> {
 
 impl Reading for Rest<'_> {
     type Found = Result<[u8; BLOCK_LEN], BackupFault>;
+
+    ghost gives = { λ _. ⊤ };
 
     fn read(&mut self, file: &File) -> Result<[u8; BLOCK_LEN], BackupFault> {
         copy_rest(file, self.copy)

@@ -1,6 +1,6 @@
 //! The file that a page file is read from.
 ghost use Rattle.std.specs.Prelude.{IfErr};
-ghost use Rattle.exh_map.specs.Sizes.{IsOther};
+ghost use Rattle.exh_map.specs.Sizes.{IsOfOpening, IsOther};
 
 use exh_codec::BLOCK_LEN;
 use exh_format::{Header, version_in};
@@ -18,7 +18,8 @@ const MAGIC: [u8; 8] = *b"EXHASHPF";
 ///
 /// `Absent`: nothing is there, or an empty file. `Io`: it isn't opened, as one that isn't regular.
 pub fn opened_at(rt: &HostRuntime, path: &str) -> Result<File, StoreError>
-    ensures { IfErr result IsOther }
+    ensures other { IfErr result IsOther }
+    ensures err { IfErr result IsOfOpening }
 {
     match open_regular(rt, path) {
         Ok(file) if file.metadata()?.len() == 0 => Err(StoreError::Absent),

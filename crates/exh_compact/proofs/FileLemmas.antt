@@ -22,7 +22,6 @@ use Rattle.exh_calls.specs.declared.call.Call.TheVariants.{Put}
 use Rattle.exh_calls.specs.declared.reply.Reply.{Reply}
 use Rattle.exh_calls.specs.declared.reply.Reply.TheVariants.{Full, New}
 use Rattle.exh_legal.specs.Pages.{IsAt, map_of}
-use Rattle.exh_ward.specs.NewWardLemmas.{count_of_new, new_ward_at}
 use Rattle.exh_ward.specs.NewWards.{new_ward, new_wards}
 use Rattle.exh_ward.specs.WardState.{WardState}
 use Rattle.exh_ward.specs.declared.ward_fault.WardFault.{WardFault}
@@ -32,6 +31,7 @@ use Rattle.exh_file.specs.Opened.{AreWardsOf, OpenedState, in_file}
 use Rattle.exh_file.specs.WardChange.{IsChanged}
 use Rattle.exh_compact.specs.Needed.{AreAllNeeded, AreNeeded, IsNeeded}
 use Rattle.exh_compact.specs.Room.{sharers}
+use Rattle.exhash.proofs.NewLemmas.{new_at, new_count}
 use Rattle.exh_compact.proofs.FillLemmas.{IsPutSoFar, full_map, full_reply, full_then, new_map, new_reply, new_then, none_put}
 
 -- ---- one ward among others
@@ -60,28 +60,6 @@ module _ (old : OpenedState) (are : AreWardsOf old) (call : Call) (pseudokey at 
 -- ---- the wards of a new file
 
 module _ (settings : FileSettings AnyKeyer) (wards : List (WardState AnyKeyer)) (made : wards ≡ new_wards settings) where
-  new_at : (number : ℕ) (ward : WardState AnyKeyer) → slice_get wards number ≡ Some ward → ward ≡ new_ward settings number
-  new_at number ward is_there = (new_ward_at settings number ward (subst (λ (ws : List (WardState AnyKeyer)). slice_get ws number ≡ Some ward) made is_there)).1
-
-  new_count : length wards ≡ 2 ^ settings.ward_bits
-  new_count = ap length made ∙ count_of_new settings
-
-  pub new_are : AreInRange settings → AreWardsOf (in_file settings wards)
-  new_are range = record {
-    some = range.some;
-    most = range.most;
-    bits = range.bits;
-    count = new_count;
-    each = λ number ward is_there.
-        let is = new_at number ward is_there in
-        record {
-          cap = ap (λ (w : WardState AnyKeyer). w.cap) is;
-          bits = ap (λ (w : WardState AnyKeyer). w.ward_bits) is;
-          number_is = ap (λ (w : WardState AnyKeyer). w.number) is;
-          keyer = ap (λ (w : WardState AnyKeyer). w.keyer) is;
-        };
-  }
-
   maps_there : (ws : List (WardState AnyKeyer)) (number : ℕ) (own : KeyMap) → slice_get (map (λ (w : WardState AnyKeyer). map_of w.pages) ws) number ≡ Some own → (ward : WardState AnyKeyer) × (slice_get ws number ≡ Some ward) × (map_of ward.pages ≡ own)
   maps_there [] number own is_there = cc
   maps_there (ward ∷ ws) zero own is_there = let same : map_of ward.pages ≡ own = cc in (ward, refl, same)
@@ -90,11 +68,11 @@ module _ (settings : FileSettings AnyKeyer) (wards : List (WardState AnyKeyer)) 
   none_in : (number : ℕ) (own : KeyMap) → slice_get (maps_in (in_file settings wards)) number ≡ Some own → own ≡ fin.empty
   none_in number own is_there =
       let found = maps_there wards number own is_there in
-      sym found.2 ∙ ap (λ (w : WardState AnyKeyer). map_of w.pages) (new_at number found.0 found.1)
+      sym found.2 ∙ ap (λ (w : WardState AnyKeyer). map_of w.pages) (new_at settings wards made number found.0 found.1)
 
   pub new_has : HasMap (in_file settings wards) fin.empty
   new_has = record {
-    count = length-map wards (λ (w : WardState AnyKeyer). map_of w.pages) ∙ new_count;
+    count = length-map wards (λ (w : WardState AnyKeyer). map_of w.pages) ∙ new_count settings wards made;
     each = λ number own is_there.
         let none = none_in number own is_there in
         record {
@@ -111,7 +89,7 @@ module _ (settings : FileSettings AnyKeyer) (wards : List (WardState AnyKeyer)) 
 
   pub new_needed : AreAllNeeded wards
   new_needed number ward is_there =
-      subst AreNeeded (sym (new_at number ward is_there)) (one_needed settings.ward_bits number settings.cap (any_pseudokey settings.keyer) (map_of (new_ward settings number).pages))
+      subst AreNeeded (sym (new_at settings wards made number ward is_there)) (one_needed settings.ward_bits number settings.cap (any_pseudokey settings.keyer) (map_of (new_ward settings number).pages))
 
 -- ---- the pairs so far
 

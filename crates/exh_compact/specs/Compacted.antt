@@ -1,13 +1,19 @@
 -- What a file that is made anew of pairs has, or which keys have no room in it.
-use Rattle.std.specs.Prelude.{◌≡◌, ◌≢◌, ℕ, List, [], length, unwrap_or}
+use Rattle.std.specs.Prelude.{◌≡◌, ◌≢◌, ◌⊎◌, ℕ, List, [], length, unwrap_or}
 use Rattle.std.specs.FinMap.{from_entries}
 use Rattle.exh_keyer.specs.Pseudokey.{any_pseudokey}
 use Rattle.exh_keyer.specs.declared.any_keyer.AnyKeyer.{AnyKeyer}
+use Rattle.exh_settings.specs.FileSettings.{AreInRange}
 use Rattle.exh_settings.specs.declared.file_settings.FileSettings.{FileSettings}
 use Rattle.exh_file.specs.FileChange.{HasMap}
 use Rattle.exh_file.specs.Opened.{OpenedState, settings_in}
+use Rattle.exh_map.specs.CallFault.{IsWardFault}
 use Rattle.exh_map.specs.FileMap.{KeepsMap}
 use Rattle.exh_map.specs.Pairs.{pairs_in}
+use Rattle.exh_map.specs.Sizes.{IsOfOpening}
+use Rattle.exh_map.specs.declared.store_error.StoreError.{StoreError}
+use Rattle.exh_map.specs.declared.store_error.StoreError.TheVariants.{Settings}
+use Rattle.exhash.specs.Store.{IsOfSaving}
 use Rattle.exh_compact.specs.Needed.{AreAllNeeded}
 use Rattle.exh_compact.specs.Room.{without_room}
 use Rattle.exh_compact.specs.declared.compact_options.CompactOptions.{CompactOptions}
@@ -40,3 +46,13 @@ IsCompacted old settings compacted = IsMadeOf (KeepsMap old) (pairs_in old.wards
 -- pairs, in a new file that has the map of them
 abbrev pub IsFilled : List (List ℕ × List ℕ) → FileSettings AnyKeyer → Compacted → Type 0
 IsFilled pairs settings compacted = IsMadeOf (λ new. HasMap new (from_entries pairs)) pairs settings compacted
+
+-- ---- errors
+
+-- the settings are no file's, or a ward refused
+abbrev pub IsOfFilling : FileSettings AnyKeyer → StoreError → Type 0
+IsOfFilling settings fault = ((fault ≡ Settings) × (AreInRange settings → ⊥)) ⊎ IsWardFault fault
+
+-- a file isn't opened, its pairs aren't put into a new one, or that isn't saved in its place
+abbrev pub IsOfCompacting : StoreError → Type 0
+IsOfCompacting fault = IsOfOpening fault ⊎ ((settings : FileSettings AnyKeyer) × IsOfFilling settings fault) ⊎ IsOfSaving fault

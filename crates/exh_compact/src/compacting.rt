@@ -1,10 +1,12 @@
 //! The pairs of a map put into new wards.
-ghost use Rattle.std.specs.Prelude.{◌≡◌, IfOk};
+ghost use Rattle.std.specs.Prelude.{◌≡◌, Err, IfErr, IfOk};
 ghost use Rattle.exh_file.specs.Opened.{settings_in};
+ghost use Rattle.exh_map.specs.CallFault.{IsWardFault};
 ghost use Rattle.exh_map.specs.FileMap.{KeepsMap};
 ghost use Rattle.exh_map.specs.Pairs.{AreOnce};
+ghost use Rattle.exh_map.specs.declared.store_error.StoreError.TheVariants.{Settings as SettingsFault};
 ghost use Rattle.exh_settings.specs.FileSettings.{AreInRange};
-ghost use Rattle.exh_compact.specs.Compacted.{IsCompacted, IsFilled};
+ghost use Rattle.exh_compact.specs.Compacted.{IsCompacted, IsFilled, IsOfFilling};
 
 use crate::Compacted;
 use crate::filling::fill;
@@ -27,6 +29,8 @@ pub fn compact_map<P: Pages + Drop>(
     ensures compacted { IfOk result (IsCompacted map.old settings) }
     ensures kept { KeepsMap map.old map.new }
     ensures settings { settings_in map.new ≡ settings_in map.old }
+    ensures asked { (AreInRange settings → ⊥) → result ≡ Err SettingsFault }
+    ensures refused { IfErr result (IsOfFilling settings) }
 {
     if !settings.are_in_range() {
         return Err(StoreError::Settings);
@@ -41,7 +45,8 @@ pub fn compact_map<P: Pages + Drop>(
 fn filled(alloc: Global, settings: Settings, pairs: &Pairs) -> Result<Compacted, StoreError>
     requires range { AreInRange settings }
     requires once { AreOnce pairs.now }
-    ensures { IfOk result (IsFilled pairs.now settings) }
+    ensures filled { IfOk result (IsFilled pairs.now settings) }
+    ensures refused { IfErr result IsWardFault }
 {
     let mut wards = new_wards(alloc, &MAKER, settings)?;
     let full = fill(alloc, &settings, &mut wards, pairs)?;

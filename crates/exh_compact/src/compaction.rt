@@ -1,4 +1,7 @@
 //! A page file at a path that is made anew of its pairs.
+ghost use Rattle.std.specs.Prelude.{IfErr};
+ghost use Rattle.exhash.specs.Store.{IsOfSaving};
+ghost use Rattle.exh_compact.specs.Compacted.{IsOfCompacting};
 
 use crate::{CompactOptions, Compacted, compact_map};
 use exh_file::Opened;
@@ -39,7 +42,9 @@ pub fn compact(
     path: &str,
     options: &CompactOptions,
     seconds: u64,
-) -> Result<CompactOutcome, StoreError> {
+) -> Result<CompactOutcome, StoreError>
+    ensures { IfErr result IsOfCompacting }
+{
     let (file, opened) = HeldFile::open(rt, path, seconds)?;
     let settings = options.over(opened.settings());
     let pages_before = page_count(&opened);
@@ -63,7 +68,9 @@ fn replaced(
     file: HeldFile,
     wards: Opened<FileStore>,
     counts: CompactCounts,
-) -> Result<CompactOutcome, StoreError> {
+) -> Result<CompactOutcome, StoreError>
+    ensures { IfErr result IsOfSaving }
+{
     file.replace(rt, wards)?;
     Ok(CompactOutcome::Done(counts))
 }

@@ -1,4 +1,5 @@
 //! The values of several keys, as a reading of an open file, which may be made again.
+ghost use Rattle.std.specs.Prelude.{⊤};
 ghost use Rattle.exh_walked.specs.AnyAnswer.{IsOfLegal};
 
 use crate::found::Found;
@@ -73,6 +74,8 @@ fn value_in<B: Blocks>(
 
 impl Reading for KeysReading<'_> {
     type Found = Result<Found, DirectFault>;
+
+    ghost gives = { λ _. ⊤ };
 
     fn read(&mut self, file: &File) -> Result<Found, DirectFault> {
         self.reason.set(None);

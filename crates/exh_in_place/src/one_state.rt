@@ -1,4 +1,5 @@
 //! Reading without a lock: what is read is one state of a file, or it is read again.
+ghost use Rattle.std.specs.Prelude.{IfOk};
 
 use crate::{Refused, recover_at};
 use exh_system::{Begun, InPlaceFault, begin_reading, open_regular, pause_after};
@@ -14,8 +15,12 @@ pub trait Reading {
     /// What reading gives.
     type Found: Drop;
 
+    /// What each reading gives.
+    ghost gives: { Self.Found → Type 0 };
+
     /// Reads it.
-    fn read(&mut self, file: &File) -> Self::Found;
+    fn read(&mut self, file: &File) -> Self::Found
+        ensures { gives result };
 }
 
 /// Reads the file of a path so that all that is read is one state of it: where it is of version 3, its stamp is looked at
@@ -29,7 +34,9 @@ pub fn read_one_state<R: Reading>(
     path: &str,
     reading: &mut R,
     seconds: u64,
-) -> Result<R::Found, Refused> {
+) -> Result<R::Found, Refused>
+    ensures { IfOk result R.gives }
+{
     let start = Instant::now(rt)?;
     for turn in 0..turns_within(seconds) {
         let file = open_regular(rt, path)?;

@@ -4,7 +4,7 @@ use Rattle.exh_page.specs.declared.key.TheConstants.{KEY_LIMIT}
 use Rattle.exh_page.specs.declared.value.TheConstants.{VALUE_LIMIT}
 use Rattle.exh_map.specs.CallFault.{IsKeyFault, IsValueFault}
 use Rattle.exh_map.specs.declared.store_error.StoreError.{StoreError}
-use Rattle.exh_map.specs.declared.store_error.StoreError.TheVariants.{EmptyKey, KeyTooLong, ValueTooLong}
+use Rattle.exh_map.specs.declared.store_error.StoreError.TheVariants.{Absent, AboveLimit, EmptyKey, Exists, KeyTooLong, NoHeader, OldVersion, ReadOnly, Settings, Unheld, Unsynchronized, ValueTooLong, Vanished}
 
 -- ---- sizes
 
@@ -38,6 +38,27 @@ IsOfSizes fault = ⊥
 
 abbrev pub IsOther : StoreError → Type 0
 IsOther fault = IsOfSizes fault → ⊥
+
+-- memory, the bytes of a file or the system make it, and not what a call was asked, or what it saw itself at a path
+abbrev pub IsOfCause : StoreError → Type 0
+IsOfCause EmptyKey = ⊥
+IsOfCause (KeyTooLong len) = ⊥
+IsOfCause (ValueTooLong len) = ⊥
+IsOfCause Settings = ⊥
+IsOfCause Exists = ⊥
+IsOfCause Absent = ⊥
+IsOfCause Vanished = ⊥
+IsOfCause NoHeader = ⊥
+IsOfCause OldVersion = ⊥
+IsOfCause (AboveLimit above) = ⊥
+IsOfCause ReadOnly = ⊥
+IsOfCause (Unheld error) = ⊥
+IsOfCause (Unsynchronized error) = ⊥
+IsOfCause fault = ⊤
+
+-- nothing is at a path that is opened; or such a cause
+abbrev pub IsOfOpening : StoreError → Type 0
+IsOfOpening fault = (fault ≡ Absent) ⊎ IsOfCause fault
 
 -- ---- calls
 

@@ -1,11 +1,12 @@
 //! A copy of the wards of a file, which a save uses up.
-ghost use Rattle.std.specs.Prelude.{IfOk, OnOk};
+ghost use Rattle.std.specs.Prelude.{IfErr, IfOk, OnOk};
 ghost use Rattle.std.specs.Io.KnownBytes.{Appends};
 ghost use Rattle.exh_format.specs.FileVersion.{written_format};
 ghost use Rattle.exh_format.specs.PageFile.{file_bytes};
 ghost use Rattle.exh_file.specs.Opened.{AreWardsOf, in_file};
 ghost use Rattle.exh_file.specs.Reopened.{IsKept, IsReopened, OpensAs};
 ghost use Rattle.exh_file.specs.Saved.{AreUnchanged, written_file};
+ghost use Rattle.exh_map.specs.Sizes.{IsOfCause};
 
 use crate::StoreError;
 use exh_file::{Opened, SaveFault, open, write_wards};
@@ -29,6 +30,7 @@ pub(crate) fn copied<P: Pages + Drop>(
 ) -> Result<Opened<FileStore>, StoreError>
     requires { AreWardsOf (in_file settings wards.old) }
     ensures copy { IfOk result (IsReopened (in_file settings wards.old)) }
+    ensures refused { IfErr result IsOfCause }
     ensures wards { AreUnchanged wards.old wards.new }
 {
     match written(alloc, settings, wards) {
@@ -70,7 +72,8 @@ fn write_to<P: Pages + Drop, W: Write>(
 
 // The wards of a page file in memory.
 fn opened_of(alloc: Global, bytes: &[u8]) -> Result<Opened<FileStore>, StoreError>
-    ensures { IfOk result (OpensAs bytes.now) }
+    ensures copy { IfOk result (OpensAs bytes.now) }
+    ensures refused { IfErr result IsOfCause }
 {
     let mut reader = bytes;
     match open(alloc, &mut reader) {

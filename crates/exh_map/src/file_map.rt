@@ -1,5 +1,5 @@
 //! The map of a page file, whose wards are in memory.
-ghost use Rattle.std.specs.Prelude.{◌≡◌, IfOk, OnErr, OnOk};
+ghost use Rattle.std.specs.Prelude.{◌≡◌, IfErr, IfOk, OnErr, OnOk};
 ghost use Rattle.exh_file.specs.FileChange.{ChangesOneMap, HasMap};
 ghost use Rattle.exh_page.specs.KeyMap.{KeyMap};
 ghost use Rattle.std.specs.FinMap.{from_entries};
@@ -8,6 +8,7 @@ ghost use Rattle.exh_file.specs.Reopened.{IsReopened};
 ghost use Rattle.exh_map.specs.Answers.{value_said};
 ghost use Rattle.exh_map.specs.FileMap.{IsGot, IsPut, IsPutAbsent, IsPutNew, IsPutOver, IsRemoved, IsReplaced, IsSwap, KeepsMap};
 ghost use Rattle.exh_map.specs.Pairs.{AreOnce, pairs_in};
+ghost use Rattle.exh_map.specs.Sizes.{IsOfCause};
 
 use crate::answering::answer_in;
 use crate::copying::copied;
@@ -213,6 +214,7 @@ impl<P: Pages + Drop> FileMap<P> {
         ensures copy { IfOk result (IsReopened self.old) }
         ensures wards { IfOk result (λ copy. AreWardsOf copy) }
         ensures same { IfOk result (λ copy. KeepsMap self.old copy) }
+        ensures refused { IfErr result IsOfCause }
         ensures kept { KeepsMap self.old self.new }
         ensures settings { settings_in self.new ≡ settings_in self.old }
     {

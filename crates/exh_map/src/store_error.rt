@@ -1,6 +1,7 @@
 ghost use Rattle.std.specs.Prelude.{◌≡◌};
 ghost use Rattle.exh_map.specs.CallFault.{fault_of};
-ghost use Rattle.exh_map.specs.Sizes.{IsOther};
+ghost use Rattle.exh_map.specs.Sizes.{IsOfCause, IsOther};
+ghost use Rattle.exh_map.specs.declared.store_error.StoreError.TheVariants.{Memory};
 
 use exh_codec::ImageFault;
 use exh_direct::DirectFault;
@@ -117,7 +118,8 @@ pub enum StoreError {
 impl StoreError {
     /// Why no page file was opened, where reading failed for this reason, if it did.
     pub fn of_opening(fault: OpenFault, reason: Option<io::Error>) -> StoreError
-        ensures { IsOther result }
+        ensures other { IsOther result }
+        ensures cause { IsOfCause result }
     {
         match fault {
             OpenFault::File(LegalFileFault::File(fault)) => StoreError::from(fault),
@@ -130,7 +132,8 @@ impl StoreError {
 
     /// Why a key's value wasn't found out, where reading failed for this reason, if it did.
     pub fn of_finding(fault: DirectFault, reason: Option<io::Error>) -> StoreError
-        ensures { IsOther result }
+        ensures other { IsOther result }
+        ensures cause { IsOfCause result }
     {
         match fault {
             DirectFault::Read => StoreError::of_reading(reason),
@@ -140,7 +143,8 @@ impl StoreError {
 
     // That reading failed.
     fn of_reading(reason: Option<io::Error>) -> StoreError
-        ensures { IsOther result }
+        ensures other { IsOther result }
+        ensures cause { IsOfCause result }
     {
         match reason {
             Some(error) => StoreError::from(error),
@@ -150,7 +154,7 @@ impl StoreError {
 }
 
 impl From<AllocError> for StoreError {
-    ghost from_gives = { λ cause fault. IsOther fault };
+    ghost from_gives = { λ _ fault. (fault ≡ Memory) × IsOther fault × IsOfCause fault };
 
     fn from(_error: AllocError) -> StoreError {
         StoreError::Memory
@@ -158,7 +162,7 @@ impl From<AllocError> for StoreError {
 }
 
 impl<T: Drop> From<AllocFailed<T>> for StoreError {
-    ghost from_gives = { λ cause fault. IsOther fault };
+    ghost from_gives = { λ _ fault. (fault ≡ Memory) × IsOther fault × IsOfCause fault };
 
     fn from(_error: AllocFailed<T>) -> StoreError {
         StoreError::Memory
@@ -166,7 +170,7 @@ impl<T: Drop> From<AllocFailed<T>> for StoreError {
 }
 
 impl From<io::Error> for StoreError {
-    ghost from_gives = { λ cause fault. IsOther fault };
+    ghost from_gives = { λ _ fault. IsOther fault × IsOfCause fault };
 
     fn from(error: io::Error) -> StoreError {
         match error.kind() {
@@ -194,7 +198,7 @@ impl From<WardFault> for StoreError {
 }
 
 impl From<SaveFault> for StoreError {
-    ghost from_gives = { λ cause fault. IsOther fault };
+    ghost from_gives = { λ _ fault. IsOther fault × IsOfCause fault };
 
     fn from(fault: SaveFault) -> StoreError {
         match fault {
@@ -205,7 +209,7 @@ impl From<SaveFault> for StoreError {
 }
 
 impl From<DraftFault> for StoreError {
-    ghost from_gives = { λ cause fault. IsOther fault };
+    ghost from_gives = { λ _ fault. IsOther fault × IsOfCause fault };
 
     fn from(fault: DraftFault) -> StoreError {
         match fault {
@@ -217,7 +221,7 @@ impl From<DraftFault> for StoreError {
 }
 
 impl From<FileFault> for StoreError {
-    ghost from_gives = { λ cause fault. IsOther fault };
+    ghost from_gives = { λ _ fault. IsOther fault × IsOfCause fault };
 
     fn from(fault: FileFault) -> StoreError {
         match fault {
@@ -234,7 +238,7 @@ impl From<FileFault> for StoreError {
 }
 
 impl From<DirectFault> for StoreError {
-    ghost from_gives = { λ cause fault. IsOther fault };
+    ghost from_gives = { λ _ fault. IsOther fault × IsOfCause fault };
 
     fn from(fault: DirectFault) -> StoreError {
         match fault {
@@ -247,7 +251,7 @@ impl From<DirectFault> for StoreError {
 }
 
 impl From<InPlaceFault> for StoreError {
-    ghost from_gives = { λ cause fault. IsOther fault };
+    ghost from_gives = { λ _ fault. IsOther fault × IsOfCause fault };
 
     fn from(fault: InPlaceFault) -> StoreError {
         match fault {
@@ -263,7 +267,7 @@ impl From<InPlaceFault> for StoreError {
 }
 
 impl From<Refused> for StoreError {
-    ghost from_gives = { λ cause fault. IsOther fault };
+    ghost from_gives = { λ _ fault. IsOther fault × IsOfCause fault };
 
     fn from(refused: Refused) -> StoreError {
         match refused {
@@ -278,7 +282,7 @@ impl From<Refused> for StoreError {
 }
 
 impl From<DiskFault> for StoreError {
-    ghost from_gives = { λ cause fault. IsOther fault };
+    ghost from_gives = { λ _ fault. IsOther fault × IsOfCause fault };
 
     fn from(fault: DiskFault) -> StoreError {
         match fault {

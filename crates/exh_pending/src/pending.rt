@@ -1,4 +1,4 @@
-ghost use Rattle.std.specs.Prelude.{◌≡◌, ◌↔◌, [], ◌∷◌, ◌++◌, IfSome, IsTrue, OnErr, OnOk, Some};
+ghost use Rattle.std.specs.Prelude.{◌≡◌, ◌↔◌, [], ◌∷◌, ◌++◌, IfNone, IfSome, IsTrue, None, OnErr, OnOk, Some};
 ghost use Rattle.exh_calls.specs.declared.call.Call.TheVariants as call;
 ghost use Rattle.exh_pending.specs.Pending.{Follows, IsEmpty, NotesPut, NotesPutNew, NotesRemoved, NotesReplaced, NotesSwap, are_known};
 
@@ -19,7 +19,8 @@ pub struct Pending {
 impl Pending {
     /// No calls, of a map of which at most so many are kept. It takes no memory.
     pub fn new(alloc: Global, limit: usize) -> Pending
-        ensures { IsEmpty result }
+        ensures empty { IsEmpty result }
+        ensures limit { result.limit ≡ limit }
     {
         Pending {
             calls: Some(Vec::new(alloc)),
@@ -29,7 +30,8 @@ impl Pending {
 
     /// The calls, `None` where they aren't known. It takes no memory.
     pub fn calls(&self) -> Option<&[Call]>
-        ensures { IfSome result (λ calls. are_known self.now ≡ Some calls.now) }
+        ensures known { IfSome result (λ calls. are_known self.now ≡ Some calls.now) }
+        ensures unknown { IfNone result (are_known self.now ≡ None) }
     {
         match &self.calls {
             Some(calls) => Some(calls.as_slice()),

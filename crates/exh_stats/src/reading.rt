@@ -1,4 +1,6 @@
 //! What a page file at a path has.
+ghost use Rattle.std.specs.Prelude.{IfErr};
+ghost use Rattle.exh_map.specs.Sizes.{IsOfCause, IsOfOpening};
 
 use crate::{Stats, stats_of};
 use exh_codec::BLOCK_LEN;
@@ -22,6 +24,8 @@ struct StatsReading {
 impl Reading for StatsReading {
     type Found = Result<Stats, StoreError>;
 
+    ghost gives = { λ found. IfErr found IsOfCause };
+
     fn read(&mut self, file: &File) -> Result<Stats, StoreError> {
         let (opened, form) = read_whole(self.alloc, file)?;
         let version = version_of(file, &form)?;
@@ -34,7 +38,9 @@ impl Reading for StatsReading {
 ///
 /// `Absent`: nothing is there, or an empty file. `Changed`: it was being changed all the while. Others: it isn't read, as they
 /// say.
-pub fn stats_at(rt: &HostRuntime, path: &str, seconds: u64) -> Result<Stats, StoreError> {
+pub fn stats_at(rt: &HostRuntime, path: &str, seconds: u64) -> Result<Stats, StoreError>
+    ensures { IfErr result IsOfOpening }
+{
     let mut reading = StatsReading { alloc: rt.alloc() };
     read_still(rt, path, &mut reading, seconds)?
 }

@@ -1,4 +1,5 @@
 pub mod CallsLemmas
 pub mod CommitLemmas
+pub mod NewLemmas
 pub mod SizeLemmas
 pub mod StoreLemmas

@@ -1,11 +1,15 @@
 -- What a store is when it is opened.
-use Rattle.std.specs.Prelude.{◌≡◌, Option, None, IsSome, IsTrue}
+use Rattle.std.specs.Prelude.{◌≡◌, ◌⊎◌, ⊤, Option, None, IsSome, IsTrue}
 use Rattle.std.specs.FinMap as fin
 use Rattle.exh_keyer.specs.declared.any_keyer.AnyKeyer.{AnyKeyer}
-use Rattle.exh_settings.specs.FileSettings.{are_same}
+use Rattle.exh_settings.specs.FileSettings.{AreInRange, are_same}
 use Rattle.exh_settings.specs.declared.file_settings.FileSettings.{FileSettings}
 use Rattle.exh_file.specs.FileChange.{HasMap}
 use Rattle.exh_file.specs.Opened.{OpenedState, settings_in}
+use Rattle.exh_map.specs.CallFault.{IsWardFault}
+use Rattle.exh_map.specs.Sizes.{IsOfCause, IsOfOpening}
+use Rattle.exh_map.specs.declared.store_error.StoreError.{StoreError}
+use Rattle.exh_map.specs.declared.store_error.StoreError.TheVariants.{AboveLimit, Exists, OldVersion, ReadOnly, Settings, Unheld, Unsynchronized, Vanished}
 
 -- it has these settings, and no pairs
 pub record IsNew (settings : FileSettings AnyKeyer) (map : OpenedState) : Type 0 where
@@ -18,3 +22,30 @@ IsHeld file = IsSome file
 
 abbrev pub IsReadOnly : {F : Type 0} → Option F → Type 0
 IsReadOnly file = file ≡ None
+
+-- ---- errors
+
+-- a save sees itself that the file is gone, of a version without places, or would be too long; or it is saved, but not held, or
+-- its folder isn't synchronized
+abbrev pub IsOfFile : StoreError → Type 0
+IsOfFile Vanished = ⊤
+IsOfFile OldVersion = ⊤
+IsOfFile (AboveLimit above) = ⊤
+IsOfFile (Unheld error) = ⊤
+IsOfFile (Unsynchronized error) = ⊤
+IsOfFile fault = ⊥
+
+abbrev pub IsOfSaving : StoreError → Type 0
+IsOfSaving fault = IsOfFile fault ⊎ IsOfCause fault
+
+-- a store that was opened to be read isn't committed, and another one is refused by a save alone
+abbrev pub IsOfCommit : {F : Type 0} → Option F → StoreError → Type 0
+IsOfCommit file fault = ((fault ≡ ReadOnly) × IsReadOnly file) ⊎ IsOfSaving fault
+
+-- a new file has settings that are no file's, or isn't saved or opened
+abbrev pub IsOfNew : FileSettings AnyKeyer → StoreError → Type 0
+IsOfNew settings fault = ((fault ≡ Settings) × (AreInRange settings → ⊥)) ⊎ IsOfFile fault ⊎ IsOfOpening fault
+
+-- or something is there already
+abbrev pub IsOfMaking : FileSettings AnyKeyer → StoreError → Type 0
+IsOfMaking settings fault = (fault ≡ Exists) ⊎ IsOfNew settings fault

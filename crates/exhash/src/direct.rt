@@ -1,5 +1,6 @@
 //! Calls that go to a page file, without opening it whole.
-ghost use Rattle.std.specs.Prelude.{[], ◌∷◌, IfErr};
+ghost use Rattle.std.specs.Prelude.{◌≡◌, [], ◌∷◌, IfErr};
+ghost use Rattle.exh_path.specs.declared.writers_lock.TheConstants.{WAIT};
 ghost use Rattle.exh_map.specs.Sizes.{IsOther, IsSized};
 
 use crate::change_at::{changed_at, put_if_at};
@@ -25,7 +26,9 @@ pub struct Direct<'r> {
 
 impl<'r> Direct<'r> {
     /// Of a path, which isn't opened yet. Each call waits five seconds for others that change the file.
-    pub fn new(rt: &'r HostRuntime, path: &'r str) -> Direct<'r> {
+    pub fn new(rt: &'r HostRuntime, path: &'r str) -> Direct<'r>
+        ensures { (result.path.now ≡ path.now) × (result.seconds ≡ WAIT) }
+    {
         Direct {
             rt,
             path,
@@ -34,7 +37,9 @@ impl<'r> Direct<'r> {
     }
 
     /// The same file, of which each call waits so many seconds for others that change it; with 0 it doesn't wait.
-    pub fn within(self, seconds: u64) -> Direct<'r> {
+    pub fn within(self, seconds: u64) -> Direct<'r>
+        ensures { (result.path.now ≡ self.path.now) × (result.seconds ≡ seconds) }
+    {
         Direct { seconds, ..self }
     }
 
@@ -78,7 +83,7 @@ impl<'r> Direct<'r> {
     {
         let key = key_of(key)?;
         let value = value_of(value)?;
-        let reply = self.changed(&Call::Put { key, value })?;
+        let reply = changed_at(self.rt, self.path, &Call::Put { key, value }, self.seconds)?;
         Ok(Put::of(reply))
     }
 
@@ -123,7 +128,7 @@ impl<'r> Direct<'r> {
         ensures sized { IsSized key.now [] result }
     {
         let key = key_of(key)?;
-        let reply = self.changed(&Call::Del { key })?;
+        let reply = changed_at(self.rt, self.path, &Call::Del { key }, self.seconds)?;
         Ok(value_was(reply))
     }
 
@@ -136,15 +141,13 @@ impl<'r> Direct<'r> {
         let key = key_of(key)?;
         let old = value_of(old)?;
         let new = value_of(new)?;
-        let reply = self.changed(&Call::Swap { key, old, new })?;
+        let reply = changed_at(
+            self.rt,
+            self.path,
+            &Call::Swap { key, old, new },
+            self.seconds,
+        )?;
         Ok(Swap::of(reply))
-    }
-
-    // The file's reply to a call, by which it is changed.
-    fn changed(&self, call: &Call) -> Result<Reply, StoreError>
-        ensures { IfErr result IsOther }
-    {
-        changed_at(self.rt, self.path, call, self.seconds)
     }
 }
 

@@ -1,8 +1,9 @@
 //! The wards of a map as they are saved over the page file of version 3 that they came of.
-ghost use Rattle.std.specs.Prelude.{IfOk};
+ghost use Rattle.std.specs.Prelude.{IfErr, IfOk};
 ghost use Rattle.exh_file.specs.FileChange.{HasMap};
 ghost use Rattle.exh_file.specs.Opened.{AreWardsOf};
 ghost use Rattle.exh_page.specs.KeyMap.{KeyMap};
+ghost use Rattle.exh_map.specs.Sizes.{IsOfCause};
 ghost use Rattle.exhash.specs.Commit.{Drafts};
 
 use exh_file::{Draft, Opened, Stamps};
@@ -21,7 +22,8 @@ pub(crate) fn drafted(
     stamps: Stamps,
 ) -> Result<Draft<FileStore>, StoreError>
     requires { AreWardsOf wards }
-    ensures { IfOk result (λ draft. (whole : KeyMap) → HasMap wards whole → Drafts whole draft) }
+    ensures draft { IfOk result (λ draft. (whole : KeyMap) → HasMap wards whole → Drafts whole draft) }
+    ensures refused { IfErr result IsOfCause }
 {
     match Draft::grown(alloc, wards, lows, stamps) {
         Ok(draft) => Ok(draft),

@@ -1,7 +1,9 @@
 //! A page file under the writers' lock.
-ghost use Rattle.std.specs.Prelude.{◌≡◌};
+ghost use Rattle.std.specs.Prelude.{◌≡◌, IfErr};
 ghost use Rattle.exh_file.specs.Opened.{AreWardsOf, settings_in};
 ghost use Rattle.exh_map.specs.FileMap.{KeepsMap};
+ghost use Rattle.exh_map.specs.Sizes.{IsOfCause, IsOfOpening};
+ghost use Rattle.exhash.specs.Store.{IsOfSaving};
 
 use crate::drafting::drafted;
 use crate::new_file::{draft_anew, save_draft, synchronized};
@@ -51,7 +53,9 @@ impl HeldFile {
         rt: &HostRuntime,
         path: &str,
         seconds: u64,
-    ) -> Result<(HeldFile, Opened<FileStore>), StoreError> {
+    ) -> Result<(HeldFile, Opened<FileStore>), StoreError>
+        ensures { IfErr result IsOfOpening }
+    {
         for _ in 0..TRIES {
             let file = opened_at(rt, path)?;
             lock_soon(rt, &file, seconds)?;
@@ -68,7 +72,9 @@ impl HeldFile {
         rt: &HostRuntime,
         path: &str,
         file: File,
-    ) -> Result<(HeldFile, Opened<FileStore>), StoreError> {
+    ) -> Result<(HeldFile, Opened<FileStore>), StoreError>
+        ensures { IfErr result IsOfCause }
+    {
         if front_of(&file)?.is_some() {
             recover_at(rt, path, &file)?;
         }
@@ -106,6 +112,7 @@ impl HeldFile {
     ) -> Result<(), StoreError>
         ensures kept { KeepsMap map.old map.new }
         ensures settings { settings_in map.new ≡ settings_in map.old }
+        ensures refused { IfErr result IsOfSaving }
     {
         self.see_there(rt)?;
         match pending.calls() {
@@ -118,7 +125,9 @@ impl HeldFile {
     ///
     /// `Vanished`: it is no longer at its path. `AboveLimit`: the new one would be longer than the system lets it be.
     /// `Unsynchronized`: it is saved, but a power failure may take it back. Others: nothing was saved, as they say.
-    pub fn replace(self, rt: &HostRuntime, wards: Opened<FileStore>) -> Result<(), StoreError> {
+    pub fn replace(self, rt: &HostRuntime, wards: Opened<FileStore>) -> Result<(), StoreError>
+        ensures { IfErr result IsOfSaving }
+    {
         self.see_there(rt)?;
         if let Some(above) = above_limit(file_size_limit(rt, &self.path), &wards.header(), true) {
             return Err(StoreError::AboveLimit(above));
@@ -129,7 +138,9 @@ impl HeldFile {
     }
 
     // Makes calls in the file, which is of version 3.
-    fn answer(&mut self, rt: &HostRuntime, calls: &[Call]) -> Result<(), StoreError> {
+    fn answer(&mut self, rt: &HostRuntime, calls: &[Call]) -> Result<(), StoreError>
+        ensures { IfErr result IsOfSaving }
+    {
         let FileForm::Placed(form) = &mut self.form else {
             return Err(StoreError::OldVersion);
         };
@@ -144,6 +155,7 @@ impl HeldFile {
     fn save_all(&mut self, rt: &HostRuntime, map: &mut FileMap<FileStore>) -> Result<(), StoreError>
         ensures kept { KeepsMap map.old map.new }
         ensures settings { settings_in map.new ≡ settings_in map.old }
+        ensures refused { IfErr result IsOfSaving }
     {
         self.see_places(rt)?;
         let copy = map.copied(rt.alloc())?;
@@ -154,7 +166,9 @@ impl HeldFile {
     }
 
     // Reads in which places the file has its pages, where calls were made in it.
-    fn see_places(&mut self, rt: &HostRuntime) -> Result<(), StoreError> {
+    fn see_places(&mut self, rt: &HostRuntime) -> Result<(), StoreError>
+        ensures { IfErr result IsOfCause }
+    {
         let FileForm::Placed(form) = &mut self.form else {
             return Ok(());
         };
@@ -176,7 +190,9 @@ impl HeldFile {
     }
 
     // Sees that the file is still at its path.
-    fn see_there(&self, rt: &HostRuntime) -> Result<(), StoreError> {
+    fn see_there(&self, rt: &HostRuntime) -> Result<(), StoreError>
+        ensures { IfErr result IsOfSaving }
+    {
         match fs::canonicalize(rt, self.path.as_str()) {
             Ok(whole) if is_at(rt, self.seen.opened(), whole.as_str())? => Ok(()),
             Ok(_) => Err(StoreError::Vanished),
@@ -186,7 +202,9 @@ impl HeldFile {
     }
 
     // Replaces the file by a new one, which is then held.
-    fn save_whole(&mut self, rt: &HostRuntime, copy: Opened<FileStore>) -> Result<(), StoreError> {
+    fn save_whole(&mut self, rt: &HostRuntime, copy: Opened<FileStore>) -> Result<(), StoreError>
+        ensures { IfErr result IsOfSaving }
+    {
         if let Some(above) = above_limit(file_size_limit(rt, &self.path), &copy.header(), false) {
             return Err(StoreError::AboveLimit(above));
         }
@@ -210,7 +228,9 @@ impl HeldFile {
 }
 
 // A file that was opened at a path, so that a save sees whether it is still there as it was.
-fn seen_of(rt: &HostRuntime, path: &str, file: File) -> Result<OpenedFile, StoreError> {
+fn seen_of(rt: &HostRuntime, path: &str, file: File) -> Result<OpenedFile, StoreError>
+    ensures { IfErr result IsOfCause }
+{
     let mut disk = SystemDisk::new(rt);
     let seen = disk.seen(path, file)?;
     // Where the system didn't say what it is, each save would be refused.
@@ -238,6 +258,7 @@ fn save_placed(
     requires { AreWardsOf copy }
     ensures kept { KeepsMap map.old map.new }
     ensures settings { settings_in map.new ≡ settings_in map.old }
+    ensures refused { IfErr result IsOfSaving }
 {
     if let Some(above) = above_limit(file_size_limit(rt, path), &copy.header(), true) {
         return Err(StoreError::AboveLimit(above));

@@ -1,4 +1,5 @@
 //! A get as a reading of an open file, which may be made again.
+ghost use Rattle.std.specs.Prelude.{⊤};
 ghost use Rattle.exh_walked.specs.AnyAnswer.{IsOfLegal};
 
 use exh_direct::{Blocks, DirectFault};
@@ -30,6 +31,8 @@ impl KeyReading<'_> {
 
 impl Reading for KeyReading<'_> {
     type Found = Result<Option<Value>, DirectFault>;
+
+    ghost gives = { λ _. ⊤ };
 
     fn read(&mut self, file: &File) -> Result<Option<Value>, DirectFault> {
         self.reason.set(None);

@@ -1,5 +1,9 @@
 //! New page files, and those that replace others.
-ghost use Rattle.std.specs.Prelude.{◌≡◌, None, OnOk};
+ghost use Rattle.std.specs.Prelude.{◌≡◌, ◌⊎◌, Err, IfErr, None, OnOk};
+ghost use Rattle.exh_map.specs.Sizes.{IsOfCause};
+ghost use Rattle.exh_map.specs.declared.store_error.StoreError.TheVariants.{Exists, Settings as SettingsFault};
+ghost use Rattle.exh_settings.specs.FileSettings.{AreInRange};
+ghost use Rattle.exhash.specs.Store.{IsOfFile, IsOfMaking, IsOfNew};
 
 use exh_file::{Draft, Opened, Stamps};
 use exh_frames::{FileStore, MAKER};
@@ -18,7 +22,10 @@ use std::{fs, io};
 ///
 /// `Settings`: these are no file's. `Exists`: something is there. `Unsynchronized`: it is made, but a power failure may take it
 /// away. Others: it isn't made, as they say.
-pub fn make(rt: &HostRuntime, path: &str, settings: Settings) -> Result<(), StoreError> {
+pub fn make(rt: &HostRuntime, path: &str, settings: Settings) -> Result<(), StoreError>
+    ensures settings { (AreInRange settings → ⊥) → result ≡ Err SettingsFault }
+    ensures refused { IfErr result (IsOfMaking settings) }
+{
     let draft = empty_draft(rt, settings)?;
     let claimed = claim(rt, path)?;
     let seen = SystemDisk::new(rt).seen(path, claimed)?;
@@ -30,15 +37,15 @@ pub fn make(rt: &HostRuntime, path: &str, settings: Settings) -> Result<(), Stor
 }
 
 // The draft of a file without pairs.
-fn empty_draft(rt: &HostRuntime, settings: Settings) -> Result<Draft<FileStore>, StoreError> {
+fn empty_draft(rt: &HostRuntime, settings: Settings) -> Result<Draft<FileStore>, StoreError>
+    ensures settings { (AreInRange settings → ⊥) → result ≡ Err SettingsFault }
+    ensures refused { IfErr result (IsOfNew settings) }
+{
     if !settings.are_in_range() {
         return Err(StoreError::Settings);
     }
     let wards = new_wards(rt.alloc(), &MAKER, settings)?;
-    let Ok(opened) = Opened::from_wards(settings, wards) else {
-        return Err(StoreError::Settings);
-    };
-    draft_anew(rt, opened)
+    draft_anew(rt, Opened::new(settings, wards))
 }
 
 /// The draft of a new file of version 3 of wards, with stamps of its own.
@@ -47,7 +54,9 @@ fn empty_draft(rt: &HostRuntime, settings: Settings) -> Result<Draft<FileStore>,
 pub(crate) fn draft_anew(
     rt: &HostRuntime,
     wards: Opened<FileStore>,
-) -> Result<Draft<FileStore>, StoreError> {
+) -> Result<Draft<FileStore>, StoreError>
+    ensures { IfErr result IsOfCause }
+{
     let stamps = Stamps {
         own: draw_stamp(rt)?,
         before: draw_stamp(rt)?,
@@ -56,7 +65,9 @@ pub(crate) fn draft_anew(
 }
 
 // An empty file at a path, which of several processes one alone replaces.
-fn claim(rt: &HostRuntime, path: &str) -> Result<File, StoreError> {
+fn claim(rt: &HostRuntime, path: &str) -> Result<File, StoreError>
+    ensures { IfErr result (λ fault. (fault ≡ Exists) ⊎ IsOfCause fault) }
+{
     let mut options = OpenOptions::new();
     options.write(true).create_new(true);
     match options.open(rt, path) {
@@ -73,7 +84,9 @@ fn claim(rt: &HostRuntime, path: &str) -> Result<File, StoreError> {
 }
 
 // Sees that what is there is an empty file. A link that leads to nothing is something.
-fn see_empty(rt: &HostRuntime, path: &str) -> Result<(), StoreError> {
+fn see_empty(rt: &HostRuntime, path: &str) -> Result<(), StoreError>
+    ensures { IfErr result (λ fault. (fault ≡ Exists) ⊎ IsOfCause fault) }
+{
     match fs::metadata(rt, path) {
         Ok(about) if about.is_file() && about.len() == 0 => Ok(()),
         Ok(_) => Err(StoreError::Exists),
@@ -90,7 +103,9 @@ pub(crate) fn save_draft(
     path: &str,
     seen: Option<&OpenedFile>,
     draft: Draft<FileStore>,
-) -> Result<Saved<SystemFile>, StoreError> {
+) -> Result<Saved<SystemFile>, StoreError>
+    ensures { IfErr result IsOfCause }
+{
     let work = Work {
         unit: Unit::BlocksWritten,
         of: None,
@@ -103,7 +118,8 @@ pub(crate) fn save_draft(
 
 /// What a save came to of which this fault kept its folder from being synchronized, if one did.
 pub(crate) fn synchronized(folder: Option<io::Error>) -> Result<(), StoreError>
-    ensures { OnOk result (folder ≡ None) }
+    ensures ok { OnOk result (folder ≡ None) }
+    ensures refused { IfErr result IsOfFile }
 {
     match folder {
         None => Ok(()),

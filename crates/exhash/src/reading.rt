@@ -1,5 +1,6 @@
 //! Page files that are read whole.
-ghost use Rattle.exh_map.specs.Sizes.{IsOther};
+ghost use Rattle.std.specs.Prelude.{IfErr, IfOk};
+ghost use Rattle.exh_map.specs.Sizes.{IsOfCause, IsOfOpening, IsOther};
 
 use exh_backup::opened_at;
 use exh_file::{FileForm, Opened, open_form};
@@ -15,7 +16,9 @@ use std::fs::File;
 /// The wards of an open file, and how it has its pages in places.
 ///
 /// Errors: it isn't read, as they say.
-pub fn read_whole(alloc: Global, file: &File) -> Result<(Opened<FileStore>, FileForm), StoreError> {
+pub fn read_whole(alloc: Global, file: &File) -> Result<(Opened<FileStore>, FileForm), StoreError>
+    ensures { IfErr result IsOfCause }
+{
     let reason = Cell::new(None);
     match open_form(alloc, &mut ReasonReader::new(file, &reason)) {
         Ok(found) => Ok(found),
@@ -42,6 +45,8 @@ struct WholeReading {
 impl Reading for WholeReading {
     type Found = Result<(Opened<FileStore>, FileForm), StoreError>;
 
+    ghost gives = { λ found. IfErr found IsOfCause };
+
     fn read(&mut self, file: &File) -> Result<(Opened<FileStore>, FileForm), StoreError> {
         read_whole(self.alloc, file)
     }
@@ -54,7 +59,9 @@ pub(crate) fn read_opened(
     rt: &HostRuntime,
     path: &str,
     seconds: u64,
-) -> Result<Opened<FileStore>, StoreError> {
+) -> Result<Opened<FileStore>, StoreError>
+    ensures { IfErr result IsOfOpening }
+{
     let mut reading = WholeReading { alloc: rt.alloc() };
     let found = read_still(rt, path, &mut reading, seconds)?;
     let (opened, _form) = found?;
@@ -71,7 +78,10 @@ pub fn read_still<R: Reading>(
     path: &str,
     reading: &mut R,
     seconds: u64,
-) -> Result<R::Found, StoreError> {
+) -> Result<R::Found, StoreError>
+    ensures found { IfOk result R.gives }
+    ensures err { IfErr result IsOfOpening }
+{
     let file = opened_at(rt, path)?;
     match hold_still(rt, path, &file, 0) {
         Ok(_) => Ok(reading.read(&file)),

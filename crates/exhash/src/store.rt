@@ -4,13 +4,14 @@ ghost use Rattle.std.specs.FinMap.{from_entries, len};
 ghost use Rattle.exh_file.specs.FileChange.{HasMap};
 ghost use Rattle.exh_file.specs.Opened.{settings_in};
 ghost use Rattle.exh_page.specs.KeyMap.{KeyMap};
-ghost use Rattle.exh_map.specs.CallFault.{IsCallFault};
+ghost use Rattle.exh_map.specs.CallFault.{IsCallFault, IsWardFault};
 ghost use Rattle.exh_map.specs.FileMap.{IsGot, IsPut, IsPutNew, IsRemoved, IsReplaced, IsSwap, KeepsMap};
 ghost use Rattle.exh_map.specs.Pairs.{AreOnce, pairs_in};
-ghost use Rattle.exh_map.specs.Sizes.{IsSized};
-ghost use Rattle.exh_map.specs.declared.store_error.StoreError.TheVariants.{ReadOnly};
+ghost use Rattle.exh_map.specs.Sizes.{IsOfCause, IsOfOpening};
+ghost use Rattle.exh_map.specs.declared.store_error.StoreError.TheVariants.{ReadOnly, Settings as SettingsFault};
 ghost use Rattle.exh_pending.specs.Pending.{IsEmpty, KeepsPending};
-ghost use Rattle.exhash.specs.Store.{IsHeld, IsNew, IsReadOnly};
+ghost use Rattle.exh_settings.specs.FileSettings.{AreInRange};
+ghost use Rattle.exhash.specs.Store.{IsHeld, IsNew, IsOfCommit, IsOfMaking, IsOfNew, IsReadOnly};
 
 use crate::held_file::HeldFile;
 use crate::new_file::make;
@@ -47,6 +48,8 @@ impl<'r> Store<'r> {
         ensures new { IfOk result (λ store. IsNew settings store.map) }
         ensures held { IfOk result (λ store. IsHeld store.file) }
         ensures pending { IfOk result (λ store. IsEmpty store.pending) }
+        ensures settings { (AreInRange settings → ⊥) → result ≡ Err SettingsFault }
+        ensures refused { IfErr result (IsOfMaking settings) }
     {
         make(rt, path, settings)?;
         let mut store = Store::open(rt, path)?;
@@ -62,6 +65,7 @@ impl<'r> Store<'r> {
         ensures new { IfOk result (λ is. IsTrue is → IsNew settings self.new.map) }
         ensures file { self.new.file ≡ self.old.file }
         ensures pending { self.new.pending ≡ self.old.pending }
+        ensures refused { IfErr result IsOfCause }
     {
         let is_empty = self.pairs()?.len() == 0;
         Ok(is_empty && self.settings().are_same(&settings))
@@ -75,6 +79,7 @@ impl<'r> Store<'r> {
     pub fn open(rt: &'r HostRuntime, path: &str) -> Result<Store<'r>, StoreError>
         ensures held { IfOk result (λ store. IsHeld store.file) }
         ensures pending { IfOk result (λ store. IsEmpty store.pending) }
+        ensures refused { IfErr result IsOfOpening }
     {
         Store::open_within(rt, path, WAIT)
     }
@@ -87,6 +92,7 @@ impl<'r> Store<'r> {
     ) -> Result<Store<'r>, StoreError>
         ensures held { IfOk result (λ store. IsHeld store.file) }
         ensures pending { IfOk result (λ store. IsEmpty store.pending) }
+        ensures refused { IfErr result IsOfOpening }
     {
         let (file, opened) = HeldFile::open(rt, path, seconds)?;
         let pending = Pending::new(rt.alloc(), file.call_limit());
@@ -109,6 +115,7 @@ impl<'r> Store<'r> {
     ) -> Result<Store<'r>, StoreError>
         ensures held { IfOk result (λ store. IsHeld store.file) }
         ensures pending { IfOk result (λ store. IsEmpty store.pending) }
+        ensures refused { IfErr result (IsOfNew settings) }
     {
         match Store::open(rt, path) {
             Err(StoreError::Absent) => match Store::create(rt, path, settings) {
@@ -126,6 +133,7 @@ impl<'r> Store<'r> {
     /// they say.
     pub fn open_read(rt: &'r HostRuntime, path: &str) -> Result<Store<'r>, StoreError>
         ensures read { IfOk result (λ store. IsReadOnly store.file) }
+        ensures refused { IfErr result IsOfOpening }
     {
         Store::open_read_within(rt, path, WAIT)
     }
@@ -137,6 +145,7 @@ impl<'r> Store<'r> {
         seconds: u64,
     ) -> Result<Store<'r>, StoreError>
         ensures read { IfOk result (λ store. IsReadOnly store.file) }
+        ensures refused { IfErr result IsOfOpening }
     {
         let opened = read_opened(rt, path, seconds)?;
         Ok(Store {
@@ -258,6 +267,7 @@ impl<'r> Store<'r> {
     ///
     /// `Memory`: a growth was refused.
     pub fn len(&mut self) -> Result<usize, StoreError>
+        ensures refused { IfErr result IsWardFault }
         ensures len { IfOk result (λ count. count ≡ length (pairs_in self.old.map.wards)) }
         ensures map { IfOk result (λ count. (whole : KeyMap) → HasMap self.old.map whole → count ≡ len whole) }
         ensures same { OnOk result (self.new.map ≡ self.old.map) }
@@ -272,6 +282,8 @@ impl<'r> Store<'r> {
     ///
     /// `Memory`: a growth was refused.
     pub fn pairs(&mut self) -> Result<Pairs, StoreError>
+        ensures refused { IfErr result IsWardFault }
+        ensures cause { IfErr result IsOfCause }
         ensures pairs { IfOk result (λ pairs. pairs ≡ pairs_in self.old.map.wards) }
         ensures once { IfOk result (λ pairs. AreOnce pairs) }
         ensures has { IfOk result (λ pairs. HasMap self.old.map (from_entries pairs)) }
@@ -298,6 +310,7 @@ impl<'r> Store<'r> {
         ensures kept { KeepsMap self.old.map self.new.map }
         ensures done { OnOk result (IsEmpty self.new.pending) }
         ensures err { OnErr result (self.new.pending ≡ self.old.pending) }
+        ensures refused { IfErr result (IsOfCommit self.old.file) }
         ensures settings { settings_in self.new.map ≡ settings_in self.old.map }
     {
         let Some(file) = &mut self.file else {
@@ -316,6 +329,7 @@ impl<'r> Store<'r> {
     /// Errors: as of `commit`, without `Unheld`. What wasn't saved is lost then.
     pub fn close(self) -> Result<(), StoreError>
         ensures read { IsReadOnly self.entry.file → result ≡ Err ReadOnly }
+        ensures refused { IfErr result (IsOfCommit self.entry.file) }
     {
         let mut store = self;
         match store.commit() {

@@ -1,4 +1,5 @@
-use Rattle.exh_compact.proofs.FileLemmas.{new_are, new_has, new_needed}
+use Rattle.exhash.proofs.NewLemmas.{new_are}
+use Rattle.exh_compact.proofs.FileLemmas.{new_has, new_needed}
 use Rattle.exh_compact.proofs.compacting.filled.Goals as goal
 
 pub fill-requires-clause-wards : goal.fill-requires-clause-wards

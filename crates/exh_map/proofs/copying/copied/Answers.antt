@@ -11,4 +11,4 @@ reopened_if old bytes (Err fault) kept opens = tt
 pub returns-in-Ok-clause-copy : goal.returns-in-Ok-clause-copy
 returns-in-Ok-clause-copy g c =
     let old = in_file c.args.settings c.args.wards.now in
-    reopened_if old c.deref.result.now c.opened_of.result (subst (IsKept old) (sym c.deref.ensures.value) c.in-Ok.ensures.kept) c.opened_of.ensures
+    reopened_if old c.deref.result.now c.opened_of.result (subst (IsKept old) (sym c.deref.ensures.value) c.in-Ok.ensures.kept) c.opened_of.ensures.copy

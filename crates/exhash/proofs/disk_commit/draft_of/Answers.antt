@@ -13,4 +13,4 @@ of_copy old copy (Ok draft) same drafts = λ whole has. drafts whole (same whole
 of_copy old copy (Err fault) same drafts = tt
 
 pub returns-in-Ok-clause-draft : goal.returns-in-Ok-clause-draft
-returns-in-Ok-clause-draft g c = of_copy c.args.map.now c.in-Ok.copy c.drafted.result c.in-Ok.ensures.same c.drafted.ensures
+returns-in-Ok-clause-draft g c = of_copy c.args.map.now c.in-Ok.copy c.drafted.result c.in-Ok.ensures.same c.drafted.ensures.draft
