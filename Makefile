@@ -8,9 +8,9 @@ PREFIX ?= /usr/local
 DESTDIR ?=
 PROGRAM ?=
 
-BUILT := $(if $(PROGRAM),$(PROGRAM),crates/exh_cli/out/exh_cli)
-INTO := $(DESTDIR)$(PREFIX)
-INSTALLED := bin/exhash share/man/man1/exhash.1 share/bash-completion/completions/exhash
+# Recipes have these from the environment, where a path may have spaces and quotes.
+export BUILT := $(if $(PROGRAM),$(PROGRAM),crates/exh_cli/out/exh_cli)
+export INTO := $(DESTDIR)$(PREFIX)
 
 .PHONY: help build check try install uninstall bench dist
 
@@ -35,16 +35,16 @@ try:
 	tools/try check examples/three-pairs.files/three-pairs.exh
 
 install: build
-	install -d $(dir $(INSTALLED:%=$(INTO)/%))
-	install -m 755 $(BUILT) $(INTO)/bin/exhash
-	install -m 644 docs/exhash.1 $(INTO)/share/man/man1/exhash.1
-	install -m 644 completions/exhash.bash $(INTO)/share/bash-completion/completions/exhash
+	install -d "$$INTO/bin" "$$INTO/share/man/man1" "$$INTO/share/bash-completion/completions"
+	install -m 755 -- "$$BUILT" "$$INTO/bin/exhash"
+	install -m 644 docs/exhash.1 "$$INTO/share/man/man1/exhash.1"
+	install -m 644 completions/exhash.bash "$$INTO/share/bash-completion/completions/exhash"
 
 uninstall:
-	rm -f $(INSTALLED:%=$(INTO)/%)
+	rm -f "$$INTO/bin/exhash" "$$INTO/share/man/man1/exhash.1" "$$INTO/share/bash-completion/completions/exhash"
 
 bench: build
-	for script in bench/*.sh; do echo "== $$script"; $$script; done
+	failed=0; for script in bench/*.sh; do echo "== $$script"; $$script || failed=1; done; exit $$failed
 
 dist: build
-	tools/dist $(BUILT)
+	tools/dist "$$BUILT"
