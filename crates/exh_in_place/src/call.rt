@@ -2,7 +2,7 @@
 
 use crate::Refused;
 use crate::locked::{Locked, begin, locked_at};
-use crate::system_files::{close, let_go, opened};
+use crate::system_files::{close, opened_locked};
 use exh_calls::{Call, Reply};
 use exh_paged::{Calls, Expected, Operation, PutIf, answer_files};
 use sqlite_std_file::Wary;
@@ -70,10 +70,7 @@ fn answer_locked<O: Operation>(
 ) -> Result<O::Answer, Refused> {
     let whole = locked.whole.as_str();
     let it = begin(rt, locked)?;
-    let files = opened(rt, whole, Wary)?;
-    if !locked.is_there(rt) {
-        return Err(let_go(rt, whole, files));
-    }
+    let files = opened_locked(rt, &locked.file, whole, Wary)?;
     let (answer, files) = answer_files(
         rt.alloc(),
         files,

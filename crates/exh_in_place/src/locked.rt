@@ -18,16 +18,6 @@ pub(crate) struct Locked {
     pub(crate) whole: PathBuf,
 }
 
-impl Locked {
-    /// Whether the file is still at its path, as the system says it.
-    pub(crate) fn is_there(&self, rt: &HostRuntime) -> bool {
-        match is_at(rt, &self.file, self.whole.as_str()) {
-            Ok(is_there) => is_there,
-            Err(_) => false,
-        }
-    }
-}
-
 /// What a change of a page file of the system begins with.
 #[derive(Drop)]
 pub(crate) struct Begun {

@@ -1,6 +1,6 @@
 use crate::Refused;
 use crate::locked::{Locked, begin, locked_at};
-use crate::system_files::{SystemBlocks, close, opened};
+use crate::system_files::{SystemBlocks, close, opened_locked};
 use exh_calls::{Call, Reply};
 use exh_commit::ChangeFault;
 use exh_paged::{CallFile, Calls, Expected, FilesFault};
@@ -27,7 +27,7 @@ impl OpenFile {
             return Ok(None);
         };
         let it = begin(rt, &locked)?;
-        let files = opened(rt, locked.whole.as_str(), Wary)?;
+        let files = opened_locked(rt, &locked.file, locked.whole.as_str(), Wary)?;
         match CallFile::open(rt.alloc(), files, it.options, Expected::Own(it.own)) {
             Ok(file) => Ok(Some(OpenFile {
                 locked,

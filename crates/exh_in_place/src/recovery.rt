@@ -1,7 +1,7 @@
 //! Changes of page files of the system that were cut off.
 
 use crate::Refused;
-use crate::system_files::{close, opened, options, own_stamp};
+use crate::system_files::{close, opened_locked, options, own_stamp};
 use exh_commit::ChangeFault;
 use exh_paged::{Expected, FilesFault, recover_files};
 use exh_system::{PageLog, front_of, is_at, lock_soon, open_regular, see_fit};
@@ -21,7 +21,7 @@ pub fn recover_at(rt: &HostRuntime, path: &str, file: &File) -> Result<(), Refus
     }
     see_fit(rt, file, whole.as_str())?;
     let expected = Expected::Own(own_stamp(file)?);
-    let files = opened(rt, whole.as_str(), Wary)?;
+    let files = opened_locked(rt, file, whole.as_str(), Wary)?;
     let (recovered, files) = recover_files(rt.alloc(), files, options(rt)?, expected);
     close(rt, whole.as_str(), recovered.is_ok(), files);
     match recovered {

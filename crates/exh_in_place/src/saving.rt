@@ -3,7 +3,7 @@
 
 use crate::Refused;
 use crate::locked::lock_again;
-use crate::system_files::{close, opened, options};
+use crate::system_files::{close, opened_locked, options};
 use exh_calls::Call;
 use exh_file::Draft;
 use exh_paged::{Answered, answer_over, save_files};
@@ -25,7 +25,7 @@ pub fn save_in_place<P: Pages + Drop>(
     seconds: u64,
 ) -> Result<(), Refused> {
     let whole = lock_again(rt, path, file, seconds)?;
-    let files = opened(rt, whole.as_str(), Wary)?;
+    let files = opened_locked(rt, file, whole.as_str(), Wary)?;
     let (saved, files) = save_files(rt.alloc(), files, options(rt)?, stamp, draft);
     close(rt, whole.as_str(), saved.is_ok(), files);
     Ok(saved?)
@@ -45,7 +45,7 @@ pub fn answer_in_place(
 ) -> Result<Answered, Refused> {
     let whole = lock_again(rt, path, file, seconds)?;
     let new = draw_stamp(rt)?;
-    let files = opened(rt, whole.as_str(), Wary)?;
+    let files = opened_locked(rt, file, whole.as_str(), Wary)?;
     let (answered, files) = answer_over(rt.alloc(), files, options(rt)?, stamp, calls, new);
     close(rt, whole.as_str(), answered.is_ok(), files);
     Ok(answered?)

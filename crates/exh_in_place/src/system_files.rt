@@ -5,7 +5,7 @@ ghost use Rattle.sqlite_std_file.specs.File.{file_is_usable, IsFresh};
 use crate::Refused;
 use exh_cells::StampedHeader;
 use exh_codec::BLOCK_LEN;
-use exh_system::{InPlaceFault, PageLog, is_at, open_regular};
+use exh_system::{InPlaceFault, PageLog, is_at, lock_soon, open_regular};
 use sqlite_disk::Files;
 use sqlite_pager::Options;
 use sqlite_std_file::{FileFrom, OpenError, Start, Wary};
@@ -16,6 +16,8 @@ use std::{fs, io};
 
 // How many blocks are kept in memory.
 const KEPT_BLOCKS: usize = 64;
+// How long an empty file's lock is waited for.
+const REMOVAL_SECONDS: u64 = 1;
 
 /// A page file of the system, or its log; of a torn write nothing is supposed.
 pub(crate) type SystemBlocks = FileFrom<Wary>;
@@ -30,12 +32,8 @@ pub(crate) fn own_stamp(file: &File) -> Result<Option<u64>, Refused> {
     }
 }
 
-/// The file of a path without links, and its log, which is made.
-pub(crate) fn opened<S: Start>(
-    rt: &HostRuntime,
-    whole: &str,
-    start: S,
-) -> Result<Files<FileFrom<S>>, Refused>
+// The file of a path without links, and its log, which is made.
+fn opened<S: Start>(rt: &HostRuntime, whole: &str, start: S) -> Result<Files<FileFrom<S>>, Refused>
     ensures log { IfOk result (λ files. IsTrue (file_is_usable S.Start files.log)) }
     ensures db { IfOk result (λ files. IsTrue (file_is_usable S.Start files.db)) }
     ensures fresh { IfOk result (λ files. IsFresh true files.log × IsFresh false files.db) }
@@ -49,21 +47,45 @@ pub(crate) fn opened<S: Start>(
     }
 }
 
-/// Lets the files go that were opened of a path to which the locked file no longer was, and removes the empty ones that the
-/// opening made in its place; the refusal.
-pub(crate) fn let_go(rt: &HostRuntime, whole: &str, files: Files<SystemBlocks>) -> Refused {
-    close(rt, whole, true, files);
-    match remove_empty(rt, whole) {
-        Ok(()) => Refused::Unfit(InPlaceFault::NotAsOpened),
-        Err(error) => Refused::from(error),
+/// The page file of a path without links, which is locked, and its log, which is made. Where the path isn't the locked file's
+/// any more, the opening may have made an empty file there: that is removed.
+///
+/// Errors: `Unfit` with `NotAsOpened` where it isn't, else as of `change_at`.
+pub(crate) fn opened_locked<S: Start>(
+    rt: &HostRuntime,
+    file: &File,
+    whole: &str,
+    start: S,
+) -> Result<Files<FileFrom<S>>, Refused>
+    ensures log { IfOk result (λ files. IsTrue (file_is_usable S.Start files.log)) }
+    ensures db { IfOk result (λ files. IsTrue (file_is_usable S.Start files.db)) }
+    ensures fresh { IfOk result (λ files. IsFresh true files.log × IsFresh false files.db) }
+{
+    let found = opened(rt, whole, start);
+    if is_there(rt, file, whole) {
+        return found;
+    }
+    if let Ok(files) = found {
+        close(rt, whole, false, files);
+    }
+    remove_empty(rt, whole)?;
+    Err(Refused::Unfit(InPlaceFault::NotAsOpened))
+}
+
+// Whether the file is still at its path, as the system says it.
+fn is_there(rt: &HostRuntime, file: &File, whole: &str) -> bool {
+    match is_at(rt, file, whole) {
+        Ok(is_there) => is_there,
+        Err(_) => false,
     }
 }
 
-// Removes the empty file of a path, under its lock, so that nobody who is making a page file there loses it.
+// Removes the empty file of a path, under its lock, so that nobody who is making a page file there loses it. Another run may
+// have the lock as long as it finds that the file is none.
 fn remove_empty(rt: &HostRuntime, whole: &str) -> io::Result<()> {
     let file = open_regular(rt, whole)?;
-    let is_free = file.try_lock().is_ok();
-    if is_free && file.metadata()?.len() == 0 && is_at(rt, &file, whole)? {
+    let is_locked = lock_soon(rt, &file, REMOVAL_SECONDS).is_ok();
+    if is_locked && file.metadata()?.len() == 0 && is_at(rt, &file, whole)? {
         fs::remove_file(rt, whole)?;
     }
     Ok(())
@@ -79,7 +101,12 @@ pub(crate) fn options(rt: &HostRuntime) -> Result<Options, Refused> {
 
 /// Lets the files go, and removes the log where the file alone has all, or the log has no change. The page file is let go
 /// last, so that nobody opens both before.
-pub(crate) fn close(rt: &HostRuntime, whole: &str, is_settled: bool, files: Files<SystemBlocks>) {
+pub(crate) fn close<S: Start>(
+    rt: &HostRuntime,
+    whole: &str,
+    is_settled: bool,
+    files: Files<FileFrom<S>>,
+) {
     let Files { log, db } = files;
     drop(log);
     // Where the log isn't removed, as by a folder that doesn't let it be, it stays without a change.
