@@ -1,6 +1,7 @@
 -- The file beside a path that a save has for itself, and why it has none.
-use Rattle.std.specs.Prelude.{◌≡◌, ◌⊎◌, ℕ, Bool, true, false, List, None, Option, Some, ⊤}
+use Rattle.std.specs.Prelude.{◌≡◌, ◌⊎◌, ℕ, Bool, true, false, List, None, Option, Some}
 use Rattle.std.specs.IoError.{error_kind}
+use Rattle.std.specs.List.{All}
 use Rattle.std.specs.declared.io.Error.{Error}
 use Rattle.std.specs.declared.io.ErrorKind.{ErrorKind}
 use Rattle.std.specs.declared.io.ErrorKind.TheVariants.{AlreadyExists, NotFound, PermissionDenied, WouldBlock}
@@ -13,7 +14,7 @@ use Rattle.exh_disk.specs.declared.found.Found.{Found}
 use Rattle.exh_disk.specs.declared.found.Head.{Head}
 use Rattle.exh_disk.specs.declared.found.Runner.{Runner}
 use Rattle.exh_saving.specs.LeftOver.{BeginsAs, IsLeftOver}
-use Rattle.exh_saving.specs.Names.{IsBeside}
+use Rattle.exh_saving.specs.Names.{IsBeside, suffixes}
 
 -- a call failed, the error being of this kind
 abbrev pub FailsAs : (Answer → Type 0) → ErrorKind → Type 0
@@ -67,11 +68,15 @@ IsUnmade answers name fault = IsTold answers Make fault
     ⊎ IsBusyAt answers NotFound Make fault
     ⊎ IsUnowned answers name fault
 
+-- the name beside a path that has this behind it is taken
+abbrev pub IsTakenBeside : (Answer → Type 0) → List ℕ → List ℕ → Option Found → List ℕ → Type 0
+IsTakenBeside answers magic path old suffix = (name : List ℕ) × IsBeside path suffix name × IsTakenName answers magic path old name
+
 -- each name beside a path is taken
-abbrev pub IsNoName : DiskFault → Type 0
-IsNoName (NoName names) = ⊤
-IsNoName fault = ⊥
+abbrev pub IsNoName : (Answer → Type 0) → List ℕ → List ℕ → Option Found → DiskFault → Type 0
+IsNoName answers magic path old (NoName names) = All (IsTakenBeside answers magic path old) suffixes
+IsNoName answers magic path old fault = ⊥
 
 -- no file was claimed beside a path
-abbrev pub IsUnclaimed : (Answer → Type 0) → DiskFault → Type 0
-IsUnclaimed answers fault = (fault ≡ Memory) ⊎ IsNoName fault ⊎ ((name : List ℕ) × IsUnmade answers name fault)
+abbrev pub IsUnclaimed : (Answer → Type 0) → List ℕ → List ℕ → Option Found → DiskFault → Type 0
+IsUnclaimed answers magic path old fault = (fault ≡ Memory) ⊎ IsNoName answers magic path old fault ⊎ ((name : List ℕ) × IsUnmade answers name fault)

@@ -76,7 +76,7 @@ abbrev pub IsUnsaved : {O : Type 0} → (List ℕ → List ℕ → Type 0) → (
     → List ℕ → List ℕ → Option (Bor (Seen O)) → List ℕ → DiskFault → Type 0
 IsUnsaved leads answers finds fails magic named seen path fault = IsOldUnheld answers finds magic named seen path fault
     ⊎ ((old : Option Found) × MayTake answers finds magic named seen path old
-    × (IsUnclaimed answers fault
+    × (IsUnclaimed answers magic path old fault
     ⊎ IsUnprepared answers finds magic named seen path old fault
     ⊎ IsUnwritten fails fault
     ⊎ ((name : List ℕ) × IsUnplaced leads answers named path name fault)))

@@ -124,7 +124,7 @@ fn claim_beside<D: Disk>(
     ensures bytes { IfOk result (λ claimed. D.holds claimed.0 ≡ D.unwritten) }
     ensures beside { IfOk result (λ claimed. string_bytes claimed.1 ≢ path.now) }
     ensures free { IfOk result (λ claimed. IsClaimed D.answers target.now.magic path.now (option_map (λ held. held.found) old.now) (string_bytes claimed.1)) }
-    ensures err { IfErr result (IsUnclaimed D.answers) }
+    ensures err { IfErr result (IsUnclaimed D.answers target.now.magic path.now (option_map (λ held. held.found) old.now)) }
     ensures crash { D.history disk.new path.now ≡ D.history disk.old path.now }
 {
     if let Some(old) = old {

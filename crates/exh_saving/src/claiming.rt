@@ -9,7 +9,7 @@ ghost use Rattle.exh_disk.specs.Stage.{asked, is_ours, locked};
 ghost use Rattle.exh_saving.specs.Claimed.{IsClaimed, IsNotOwn, IsOfASave, IsRunner, IsTakenName, IsUnclaimed, IsUnmade, IsUnowned, MayClaim};
 ghost use Rattle.exh_saving.specs.LeftOver.{BeginsAs, IsLeftOver};
 
-use crate::names::{SUFFIXES, name_beside, names_beside};
+use crate::names::{NAMES, name_beside, names_beside, suffix_of};
 use exh_disk::{Call, Disk, DiskFault, Found, Head, Kind, Runner};
 use std::alloc::Global;
 use std::io::ErrorKind;
@@ -32,11 +32,11 @@ pub(crate) fn claim<D: Disk>(
     ensures bytes { IfOk result (λ claimed. D.holds claimed.0 ≡ D.unwritten) }
     ensures beside { IfOk result (λ claimed. string_bytes claimed.1 ≢ path.now) }
     ensures free { IfOk result (λ claimed. IsClaimed D.answers magic path.now (option_copied old.entry) (string_bytes claimed.1)) }
-    ensures err { IfErr result (IsUnclaimed D.answers) }
+    ensures err { IfErr result (IsUnclaimed D.answers magic path.now (option_copied old.entry)) }
     ensures crash { D.history disk.new path.now ≡ D.history disk.old path.now }
 {
-    for suffix in SUFFIXES {
-        let Ok(name) = name_beside(alloc, path, suffix) else {
+    for turn in 0..NAMES {
+        let Ok(name) = name_beside(alloc, path, suffix_of(turn)) else {
             return Err(DiskFault::Memory);
         };
         if let Some(file) = claim_name(disk, &name, path, magic, old)? {

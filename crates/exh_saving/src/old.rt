@@ -6,7 +6,7 @@ ghost use Rattle.exh_saving.specs.Replaced.{MayTake};
 ghost use Rattle.exh_saving.specs.Unsaved.{IsMoved, IsOldUnheld, IsUnheld};
 
 use crate::Target;
-use crate::names::{SUFFIXES, name_beside};
+use crate::names::{NAMES, name_beside, suffix_of};
 use crate::path::old_at;
 use exh_disk::{Call, Disk, DiskFault, Found, hold, leads_to};
 use std::alloc::Global;
@@ -90,8 +90,8 @@ pub(crate) fn clear_names<D: Disk>(
     if old.found.links == 1 {
         return Ok(());
     }
-    for suffix in SUFFIXES {
-        let Ok(name) = name_beside(alloc, path, suffix) else {
+    for turn in 0..NAMES {
+        let Ok(name) = name_beside(alloc, path, suffix_of(turn)) else {
             return Err(DiskFault::Memory);
         };
         clear_name(disk, &name, path, old);

@@ -1,5 +1,12 @@
-use Rattle.std.proofs.Common.{◌≡◌}
+use Rattle.std.proofs.Common.{◌≡◌, take}
+use Rattle.std.specs.List.{All}
+use Rattle.std.specs.Option.{option_copied}
+use Rattle.exh_saving.specs.Claimed.{IsTakenBeside}
+use Rattle.exh_saving.specs.Names.{suffixes}
 use Rattle.exh_saving.proofs.claiming.claim.Given as goal
 
-abbrev pub invariant-loop-suffix : goal.invariant-loop-suffix
-invariant-loop-suffix g l = g.D.Disk.history l.disk l.path ≡ g.D.Disk.history l.initial.disk l.path
+abbrev pub invariant-loop-turn : goal.invariant-loop-turn
+invariant-loop-turn g l = record {
+  same : g.D.Disk.history l.disk l.path ≡ g.D.Disk.history l.initial.disk l.path;
+  taken : All (IsTakenBeside g.D.Disk.answers l.magic l.path (option_copied l.old)) (take l.turn suffixes);
+}
