@@ -38,7 +38,7 @@ impl<'r> Direct<'r> {
 
     /// The same file, of which each call waits so many seconds for others that change it; with 0 it doesn't wait.
     pub fn within(self, seconds: u64) -> Direct<'r>
-        ensures { (result.path.now ≡ self.path.now) × (result.seconds ≡ seconds) }
+        ensures { (result.path.now ≡ self.entry.path.now) × (result.seconds ≡ seconds) }
     {
         Direct { seconds, ..self }
     }

@@ -1,3 +1,4 @@
+use Rattle.std.proofs.Common.{rules}
 use Rattle.exhash.proofs.NewLemmas.{new_are}
 use Rattle.exhash.proofs.new_file.empty_draft.Goals as goal
 
