@@ -13,8 +13,8 @@ use Rattle.exh_pair_text.specs.Formats.{tab}
 use Rattle.exh_pair_text.specs.Lines.{field_text}
 use Rattle.exh_pair_text.specs.Reading.{bytes_from, field_bytes}
 use Rattle.exh_pair_text.specs.declared.field.Field.{Field}
-use Rattle.exh_pair_text.specs.declared.pair_format.PairFormat.{PairFormat}
-use Rattle.exh_pair_text.specs.declared.pair_format.PairFormat.TheVariants.{Words, Tsv}
+use Rattle.exh_pair_text.specs.declared.separated.Separated.{Separated}
+use Rattle.exh_pair_text.specs.declared.separated.Separated.TheVariants.{Words, Tsv}
 use Rattle.exh_text.specs.Printing.{printed}
 use Rattle.exh_text.specs.TextLemmas.{digit_is, printed_again, printed_graphic}
 use Rattle.std.proofs.lemmas.List.Folds.{list_all-append}
@@ -176,17 +176,17 @@ texts_printable (byte ∷ bytes) all = list_all-append is_printable (byte_text b
 -- ---- keys and values
 
 -- the bytes up to here stand in no key or value
-abbrev pub least_limit : PairFormat → ℕ
+abbrev pub least_limit : Separated → ℕ
 least_limit Words = 33
 least_limit Tsv = 32
 
-pub field_other : (format : PairFormat) (hex : Bool) (mark : ℕ) (bytes : List ℕ) → mark < least_limit format → AllByRecursion (λ byte. byte < 256) bytes → AreOther mark (field_text format hex bytes)
+pub field_other : (format : Separated) (hex : Bool) (mark : ℕ) (bytes : List ℕ) → mark < least_limit format → AllByRecursion (λ byte. byte < 256) bytes → AreOther mark (field_text format hex bytes)
 field_other Words true mark bytes small all = graphic_other mark (encode_lower bytes) small (hex_graphic bytes all)
 field_other Tsv true mark bytes small all = graphic_other mark (encode_lower bytes) (omega arith) (hex_graphic bytes all)
 field_other Words false mark bytes small all = graphic_other mark (printed bytes) small (printed_graphic bytes all)
 field_other Tsv false mark bytes small all = printable_other mark (flat_map byte_text bytes) small (texts_printable bytes all)
 
-pub field_again : (format : PairFormat) (hex : Bool) (field : Field) (at : ℕ) (bytes : List ℕ) → AllByRecursion (λ byte. byte < 256) bytes → field_bytes format hex field at (field_text format hex bytes) ≡ Ok bytes
+pub field_again : (format : Separated) (hex : Bool) (field : Field) (at : ℕ) (bytes : List ℕ) → AllByRecursion (λ byte. byte < 256) bytes → field_bytes format hex field at (field_text format hex bytes) ≡ Ok bytes
 unfolding field_bytes
 field_again Words true field at bytes all = hex_bytes_again at bytes all
 field_again Tsv true field at bytes all = hex_bytes_again at bytes all

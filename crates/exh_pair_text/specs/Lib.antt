@@ -1,6 +1,7 @@
 -- formats, how their bytes are spelled, the lines that are written, and what lines read as
 pub mod Formats
 pub mod Bytes
+pub mod Json
 pub mod Lines
 pub mod Reading
 pub mod Spelled

@@ -4,19 +4,27 @@ use Rattle.hex.specs.Hex.{encode_lower}
 use Rattle.exh_text.specs.Contents.{on_line}
 use Rattle.exh_text.specs.Printing.{printed}
 use Rattle.exh_pair_text.specs.declared.pair_format.PairFormat.{PairFormat}
-use Rattle.exh_pair_text.specs.declared.pair_format.PairFormat.TheVariants.{Words, Tsv}
+use Rattle.exh_pair_text.specs.declared.pair_format.PairFormat.TheVariants.{Words, Tsv, Jsonl}
+use Rattle.exh_pair_text.specs.declared.separated.Separated.{Separated}
+use Rattle.exh_pair_text.specs.declared.separated.Separated.TheVariants as apart
 use Rattle.exh_pair_text.specs.Bytes.{byte_text}
 use Rattle.exh_pair_text.specs.Formats.{format_name, separator}
+use Rattle.exh_pair_text.specs.Json.{json_words}
 
--- a key or a value
-abbrev pub field_text : PairFormat → Bool → List ℕ → List ℕ
+-- a key or a value beside a separating byte
+abbrev pub field_text : Separated → Bool → List ℕ → List ℕ
 field_text format true bytes = encode_lower bytes
-field_text Words false bytes = printed bytes
-field_text Tsv false bytes = flat_map byte_text bytes
+field_text apart.Words false bytes = printed bytes
+field_text apart.Tsv false bytes = flat_map byte_text bytes
+
+abbrev pub separated_words : Separated → Bool → List ℕ → List ℕ → List ℕ
+separated_words format hex key value = field_text format hex key ++ separator format ∷ field_text format hex value
 
 -- a pair, without the newline and with it
 abbrev pub pair_words : PairFormat → Bool → List ℕ → List ℕ → List ℕ
-pair_words format hex key value = field_text format hex key ++ separator format ∷ field_text format hex value
+pair_words Words hex key value = separated_words apart.Words hex key value
+pair_words Tsv hex key value = separated_words apart.Tsv hex key value
+pair_words Jsonl hex key value = json_words hex key value
 
 abbrev pub pair_line : PairFormat → Bool → List ℕ → List ℕ → List ℕ
 pair_line format hex key value = on_line (pair_words format hex key value)
@@ -28,8 +36,16 @@ opening_words = codes "# exhash export "
 abbrev pub end_words : List ℕ
 end_words = codes "# exhash end "
 
+abbrev pub json_opening : List ℕ
+json_opening = codes "{\"exhash\":\"export\",\"format\":\"jsonl\"}"
+
+abbrev pub json_end_words : List ℕ
+json_end_words = codes "{\"exhash\":\"end\",\"pairs\":"
+
 abbrev pub opening_line : PairFormat → List ℕ
+opening_line Jsonl = on_line json_opening
 opening_line format = on_line (opening_words ++ format_name format)
 
-abbrev pub end_line : ℕ → List ℕ
-end_line count = on_line (end_words ++ decimal count)
+abbrev pub end_line : PairFormat → ℕ → List ℕ
+end_line Jsonl count = json_end_words ++ (decimal count ++ on_line (codes "}"))
+end_line format count = on_line (end_words ++ decimal count)

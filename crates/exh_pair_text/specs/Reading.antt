@@ -1,6 +1,9 @@
 -- What a line of a text of pairs reads as.
 use Rattle.std.specs.Prelude.{ℕ, zero, suc, ◌+◌, ◌-◌, ◌==◌, List, [], ◌∷◌, length, nat_le, Bool, true, false, if◌then◌else◌, Option, Some, None, Result, Ok, Err}
+use Rattle.std.specs.Str.{bytes_eq, is_utf8}
 use Rattle.std.specs.Option.{option_and_then, option_map}
+use Rattle.json.specs.Find.{as_str, get}
+use Rattle.json.specs.Json.{Json, document}
 use Rattle.exh_page.specs.declared.key.TheConstants.{KEY_LIMIT}
 use Rattle.exh_page.specs.declared.value.TheConstants.{VALUE_LIMIT}
 use Rattle.exh_text.specs.ByteWord.{bytes_of_word}
@@ -10,12 +13,15 @@ use Rattle.exh_pair_text.specs.declared.field.Field.TheVariants.{Key, Value}
 use Rattle.exh_pair_text.specs.declared.line.Line.{Line}
 use Rattle.exh_pair_text.specs.declared.line.Line.TheVariants.{Pair, Opening, End, Empty, Wrong}
 use Rattle.exh_pair_text.specs.declared.pair_format.PairFormat.{PairFormat}
-use Rattle.exh_pair_text.specs.declared.pair_format.PairFormat.TheVariants.{Words, Tsv}
+use Rattle.exh_pair_text.specs.declared.pair_format.PairFormat.TheVariants.{Words, Tsv, Jsonl}
+use Rattle.exh_pair_text.specs.declared.separated.Separated.{Separated}
+use Rattle.exh_pair_text.specs.declared.separated.Separated.TheVariants as apart
 use Rattle.exh_pair_text.specs.declared.wrong_line.WrongLine.{WrongLine}
-use Rattle.exh_pair_text.specs.declared.wrong_line.WrongLine.TheVariants.{NoValue, EmptyKey, LongKey, LongValue, NoWord, NoDigits, NoEscape, SecondTab}
+use Rattle.exh_pair_text.specs.declared.wrong_line.WrongLine.TheVariants.{NoValue, EmptyKey, LongKey, LongValue, NoWord, NoDigits, NoEscape, SecondTab, NoJson, NoField, NoString, NoHex, TwoFields}
 use Rattle.exh_pair_text.specs.Bytes.{first_byte}
 use Rattle.exh_pair_text.specs.Formats.{format_named, separator, tab}
-use Rattle.exh_pair_text.specs.Lines.{end_words, opening_words}
+use Rattle.exh_pair_text.specs.Json.{digits_name, plain_name}
+use Rattle.exh_pair_text.specs.Lines.{end_words, json_end_words, json_opening, opening_words}
 
 -- the first fault decides
 infixl 10 ◌>>=◌
@@ -45,10 +51,10 @@ bytes_from hex at zero (byte ∷ text) = do
 bytes_from hex at (suc skip) (byte ∷ text) = bytes_from hex (at + 1) skip text
 
 -- those of a key or a value, which begins at this place of the line
-unfoldable pub field_bytes : PairFormat → Bool → Field → ℕ → List ℕ → Result (List ℕ) WrongLine
+unfoldable pub field_bytes : Separated → Bool → Field → ℕ → List ℕ → Result (List ℕ) WrongLine
 field_bytes format true field at text = bytes_from true at 0 text
-field_bytes Words false field at text = or_wrong (NoWord field) (bytes_of_word text)
-field_bytes Tsv false field at text = bytes_from false at 0 text
+field_bytes apart.Words false field at text = or_wrong (NoWord field) (bytes_of_word text)
+field_bytes apart.Tsv false field at text = bytes_from false at 0 text
 
 -- ---- keys and values
 
@@ -67,15 +73,65 @@ cut_at mark (byte ∷ line) =
     if byte == mark then Some ([], line)
     else option_map (λ parts. (byte ∷ parts.0, parts.1)) (cut_at mark line)
 
--- the pair of a line
-unfoldable pub pair_in : PairFormat → Bool → List ℕ → Result (List ℕ × List ℕ) WrongLine
-pair_in format hex line = do
+-- the pair of a line whose key and value have a separating byte between them
+unfoldable pub separated_pair : Separated → Bool → List ℕ → Result (List ℕ × List ℕ) WrongLine
+separated_pair format hex line = do
   parts ← or_wrong NoValue (cut_at (separator format) line)
   key ← field_bytes format hex Key 1 parts.0 >>= key_of_bytes
   value ← field_bytes format hex Value (length parts.0 + 2) parts.1 >>= value_of_bytes
   Ok (key, value)
 
+-- ---- JSON
+
+-- the value that a line is, in UTF-8
+unfoldable pub json_in : List ℕ → Option Json
+json_in line = if is_utf8 line then document line else None
+
+-- the string of a field, where there is that field
+abbrev pub string_in : Field → Option Json → Result (Option (List ℕ)) WrongLine
+string_in field None = Ok None
+string_in field (Some found) = or_wrong (NoString field) (option_map Some (as_str found))
+
+-- the bytes that hexadecimal digits spell
+abbrev pub no_hex : Field → Result (List ℕ) WrongLine → Result (List ℕ) WrongLine
+no_hex field (Ok bytes) = Ok bytes
+no_hex field (Err wrong) = Err (NoHex field)
+
+unfoldable pub hex_bytes : Field → List ℕ → Result (List ℕ) WrongLine
+hex_bytes field digits = no_hex field (bytes_from true 1 0 digits)
+
+-- The bytes of a key or a value: of the one field, or of the other, whose string has digits. So has that of the first where
+-- hexadecimal digits are asked for.
+abbrev pub either_bytes : Field → Bool → Option (List ℕ) → Option (List ℕ) → Result (List ℕ) WrongLine
+either_bytes field hex None None = Err (NoField field)
+either_bytes field hex (Some text) (Some digits) = Err (TwoFields field)
+either_bytes field hex None (Some digits) = hex_bytes field digits
+either_bytes field true (Some text) None = hex_bytes field text
+either_bytes field false (Some text) None = Ok text
+
+unfoldable pub json_bytes : Field → Bool → Json → Result (List ℕ) WrongLine
+json_bytes field hex json = do
+  text ← string_in field (get (plain_name field) json)
+  digits ← string_in field (get (digits_name field) json)
+  either_bytes field hex text digits
+
+unfoldable pub object_pair : Bool → Json → Result (List ℕ × List ℕ) WrongLine
+object_pair hex json = do
+  key ← json_bytes Key hex json >>= key_of_bytes
+  value ← json_bytes Value hex json >>= value_of_bytes
+  Ok (key, value)
+
+-- the pair of a line that is an object
+unfoldable pub json_pair : Bool → List ℕ → Result (List ℕ × List ℕ) WrongLine
+json_pair hex line = or_wrong NoJson (json_in line) >>= object_pair hex
+
 -- ---- lines
+
+-- the pair of a line
+abbrev pub pair_in : PairFormat → Bool → List ℕ → Result (List ℕ × List ℕ) WrongLine
+pair_in Words hex line = separated_pair apart.Words hex line
+pair_in Tsv hex line = separated_pair apart.Tsv hex line
+pair_in Jsonl hex line = json_pair hex line
 
 abbrev pub pair_or_wrong : Result (List ℕ × List ℕ) WrongLine → Line
 pair_or_wrong (Ok pair) = Pair pair.0 pair.1
@@ -83,11 +139,23 @@ pair_or_wrong (Err wrong) = Wrong wrong
 
 -- the first line of an export
 unfoldable pub opening_in : List ℕ → Option PairFormat
-opening_in line = option_and_then format_named (after_prefix opening_words line)
+opening_in line = if bytes_eq line json_opening then Some Jsonl else option_and_then format_named (after_prefix opening_words line)
+
+-- what stands before a brace that ends the line
+abbrev pub before_end : Option (List ℕ × List ℕ) → Option (List ℕ)
+before_end (Some (digits, [])) = Some digits
+before_end parts = None
+
+unfoldable pub json_end_in : List ℕ → Option ℕ
+json_end_in line = option_and_then (λ text. option_and_then index_spelled (before_end (cut_at 125 text))) (after_prefix json_end_words line)
 
 -- the last one
+abbrev pub or_else : Option ℕ → Option ℕ → Option ℕ
+or_else (Some count) other = Some count
+or_else None other = other
+
 unfoldable pub end_in : List ℕ → Option ℕ
-end_in line = option_and_then index_spelled (after_prefix end_words line)
+end_in line = or_else (option_and_then index_spelled (after_prefix end_words line)) (json_end_in line)
 
 abbrev pub unmarked : Option PairFormat → Option ℕ → Line → Line
 unmarked (Some format) count line = Opening format

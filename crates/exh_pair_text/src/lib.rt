@@ -11,10 +11,13 @@ pub use wrong_line::WrongLine;
 
 mod byte_text;
 mod field;
+mod json_object;
+mod json_reading;
 mod laws;
 mod line;
 mod pair_format;
 mod reading;
+mod separated;
 mod spelled;
 #[cfg(test)]
 mod tests;

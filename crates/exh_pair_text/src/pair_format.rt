@@ -1,13 +1,15 @@
 ghost use Rattle.std.specs.Prelude.{◌≡◌};
-ghost use Rattle.exh_pair_text.specs.Formats.{format_name, format_named, separator};
+ghost use Rattle.exh_pair_text.specs.Formats.{format_name, format_named};
 
-/// How a text has its pairs, one a line.
+/// How a text has its pairs.
 #[derive(Clone, Copy, Debug, PartialEq, Eq)]
 pub enum PairFormat {
     /// `KEY VALUE`, as `exhash pairs` prints words.
     Words,
     /// KEY, a tab, VALUE, with escapes that begin with a backslash.
     Tsv,
+    /// A JSON object with the fields `key` and `value`, or `key_hex` and `value_hex`.
+    Jsonl,
 }
 
 impl PairFormat {
@@ -18,6 +20,7 @@ impl PairFormat {
         match word {
             b"words" => Some(PairFormat::Words),
             b"tsv" => Some(PairFormat::Tsv),
+            b"jsonl" => Some(PairFormat::Jsonl),
             _ => None,
         }
     }
@@ -29,16 +32,7 @@ impl PairFormat {
         match self {
             PairFormat::Words => "words",
             PairFormat::Tsv => "tsv",
-        }
-    }
-
-    // The byte between a key and its value.
-    pub(crate) fn separator(self) -> u8
-        ensures { result ≡ separator self }
-    {
-        match self {
-            PairFormat::Words => b' ',
-            PairFormat::Tsv => b'\t',
+            PairFormat::Jsonl => "jsonl",
         }
     }
 }

@@ -1,30 +1,50 @@
 //! What a line of a text of pairs reads as.
-ghost use Rattle.std.specs.Prelude.{◌≡◌, ◌+◌, ◌<◌, length, IfSome};
-ghost use Rattle.exh_pair_text.specs.Reading.{cut_at, end_in, line_read, opening_in, pair_in};
+ghost use Rattle.std.specs.Prelude.{◌≡◌, ◌+◌, ◌<◌, length, IfOk, IfSome};
+ghost use Rattle.std.specs.Option.{option_and_then};
+ghost use Rattle.exh_text.specs.Numbers.{after_prefix, index_spelled};
+ghost use Rattle.exh_pair_text.specs.Lines.{end_words};
+ghost use Rattle.exh_pair_text.specs.Reading.{cut_at, end_in, json_end_in, line_read, opening_in, pair_in, pair_or_wrong, separated_pair};
 ghost use Rattle.exh_pair_text.specs.Reads.{cut_lists};
 
+use crate::json_reading::json_pair;
+use crate::separated::Separated;
 use crate::spelled::Spelled;
 use crate::{Field, Line, PairFormat, WrongLine};
 use exh_page::{Key, Value};
 use exh_text::parse_u64;
 use memchr::memchr;
+use std::alloc::{AllocError, Global};
 
-/// What a line without its newline reads as, where keys and values are written in this format, or in hexadecimal digits. It
-/// takes no memory. An opening or an end is one whatever the format.
+const JSON_OPENING: &str = "{\"exhash\":\"export\",\"format\":\"jsonl\"}";
+
+/// What a line without its newline reads as, where keys and values are written in this format, or in hexadecimal digits. An
+/// opening or an end is one whatever the format. An `Err`, which comes of JSON alone: out of memory.
 #[tactic(auto, unfolding(crate::specs::Reading::line_read))]
-pub fn line_of(format: PairFormat, is_hex: bool, line: &[u8]) -> Line
-    ensures { result ≡ line_read format is_hex line.now }
+pub fn line_of(
+    alloc: Global,
+    format: PairFormat,
+    is_hex: bool,
+    line: &[u8],
+) -> Result<Line, AllocError>
+    ensures { IfOk result (λ read. read ≡ line_read format is_hex line.now) }
 {
     if line.is_empty() {
-        return Line::Empty;
+        return Ok(Line::Empty);
     }
     if let Some(format) = opening_in(line) {
-        return Line::Opening(format);
+        return Ok(Line::Opening(format));
     }
     if let Some(count) = end_in(line) {
-        return Line::End(count);
+        return Ok(Line::End(count));
     }
-    match pair_in(format, is_hex, line) {
+    Ok(pair_or_wrong(pair_in(alloc, format, is_hex, line)?))
+}
+
+// A pair, or why there is none.
+fn pair_or_wrong(pair: Result<(Key, Value), WrongLine>) -> Line
+    ensures { result ≡ pair_or_wrong pair }
+{
+    match pair {
         Ok((key, value)) => Line::Pair { key, value },
         Err(wrong) => Line::Wrong(wrong),
     }
@@ -35,6 +55,9 @@ pub fn line_of(format: PairFormat, is_hex: bool, line: &[u8]) -> Line
 fn opening_in(line: &[u8]) -> Option<PairFormat>
     ensures { result ≡ opening_in line.now }
 {
+    if line == JSON_OPENING.as_bytes() {
+        return Some(PairFormat::Jsonl);
+    }
     PairFormat::named(line.strip_prefix(b"# exhash export ")?)
 }
 
@@ -43,13 +66,52 @@ fn opening_in(line: &[u8]) -> Option<PairFormat>
 fn end_in(line: &[u8]) -> Option<u64>
     ensures { result ≡ end_in line.now }
 {
+    match words_end_in(line) {
+        Some(count) => Some(count),
+        None => json_end_in(line),
+    }
+}
+
+// The same of one that is no JSON.
+fn words_end_in(line: &[u8]) -> Option<u64>
+    ensures { result ≡ option_and_then index_spelled (after_prefix end_words line.now) }
+{
     parse_u64(line.strip_prefix(b"# exhash end ")?)
 }
 
+// The same of one that is an object.
+#[tactic(auto, unfolding(crate::specs::Reading::json_end_in))]
+fn json_end_in(line: &[u8]) -> Option<u64>
+    ensures { result ≡ json_end_in line.now }
+{
+    let (digits, rest) = cut_at(b'}', line.strip_prefix(b"{\"exhash\":\"end\",\"pairs\":")?)?;
+    if rest.is_empty() {
+        parse_u64(digits)
+    } else {
+        None
+    }
+}
+
 // The pair of a line.
-#[tactic(auto, unfolding(crate::specs::Reading::pair_in))]
-fn pair_in(format: PairFormat, is_hex: bool, line: &[u8]) -> Result<(Key, Value), WrongLine>
-    ensures { result ≡ pair_in format is_hex line.now }
+fn pair_in(
+    alloc: Global,
+    format: PairFormat,
+    is_hex: bool,
+    line: &[u8],
+) -> Result<Result<(Key, Value), WrongLine>, AllocError>
+    ensures { IfOk result (λ pair. pair ≡ pair_in format is_hex line.now) }
+{
+    match format {
+        PairFormat::Words => Ok(separated_pair(Separated::Words, is_hex, line)),
+        PairFormat::Tsv => Ok(separated_pair(Separated::Tsv, is_hex, line)),
+        PairFormat::Jsonl => json_pair(alloc, is_hex, line),
+    }
+}
+
+// The pair of a line whose key and value have a separating byte between them.
+#[tactic(auto, unfolding(crate::specs::Reading::separated_pair))]
+fn separated_pair(format: Separated, is_hex: bool, line: &[u8]) -> Result<(Key, Value), WrongLine>
+    ensures { result ≡ separated_pair format is_hex line.now }
 {
     let (key, value) = cut_at(format.separator(), line).ok_or(WrongLine::NoValue)?;
     let at = key.len() + 2;

@@ -2,11 +2,12 @@
 ghost use Rattle.std.specs.Prelude.{◌≡◌, ◌+◌, ◌<◌, ◌≤◌, ◌^◌, ℕ, List, [], length, unwrap_or, IsSome};
 ghost use Rattle.std.specs.Option.{option_map};
 ghost use Rattle.exh_text.specs.ByteWord.{bytes_of_word};
-ghost use Rattle.exh_pair_text.specs.Reading.{bytes_from, field_bytes, key_of_bytes, value_of_bytes, wrong_byte};
+ghost use Rattle.exh_pair_text.specs.Reading.{bytes_from, field_bytes, hex_bytes, key_of_bytes, value_of_bytes, wrong_byte};
 ghost use Rattle.exh_pair_text.specs.Spelled.{all_spelled, spelled};
 
 use crate::byte_text::first_byte;
-use crate::{Field, PairFormat, WrongLine};
+use crate::separated::Separated;
+use crate::{Field, WrongLine};
 use arrayvec::ArrayVec;
 use exh_page::{Key, VALUE_LIMIT, Value};
 use exh_text::ByteWord;
@@ -22,7 +23,7 @@ impl Spelled {
     /// The bytes of a key or a value, which begins at this place of its line.
     #[tactic(auto, unfolding(crate::specs::Reading::field_bytes))]
     pub(crate) fn read(
-        format: PairFormat,
+        format: Separated,
         is_hex: bool,
         field: Field,
         at: usize,
@@ -32,8 +33,29 @@ impl Spelled {
         ensures { result ≡ all_spelled (field_bytes format is_hex field at text.now) }
     {
         match format {
-            PairFormat::Words if !is_hex => of_word(text).ok_or(WrongLine::NoWord(field)),
+            Separated::Words if !is_hex => of_word(text).ok_or(WrongLine::NoWord(field)),
             _ => of_bytes(is_hex, at, text),
+        }
+    }
+
+    /// The bytes of a string of hexadecimal digits.
+    #[tactic(auto, unfolding(crate::specs::Reading::hex_bytes))]
+    pub(crate) fn of_digits(field: Field, text: &[u8]) -> Result<Spelled, WrongLine>
+        ensures { result ≡ all_spelled (hex_bytes field text.now) }
+    {
+        match of_bytes(true, 1, text) {
+            Ok(bytes) => Ok(bytes),
+            Err(_) => Err(WrongLine::NoHex(field)),
+        }
+    }
+
+    /// Bytes that stand for themselves.
+    pub(crate) fn of_text(text: &[u8]) -> Spelled
+        ensures { result ≡ spelled text.now }
+    {
+        match Value::from_bytes(text) {
+            Ok(value) => Spelled::Few(value),
+            Err(_) => Spelled::Many(text.len()),
         }
     }
 

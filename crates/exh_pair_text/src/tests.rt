@@ -5,7 +5,7 @@ use std::alloc::{AllocError, Global};
 use std::fmt::Display;
 use std::test::Fail;
 
-const FORMATS: [PairFormat; 2] = [PairFormat::Words, PairFormat::Tsv];
+const FORMATS: [PairFormat; 3] = [PairFormat::Words, PairFormat::Tsv, PairFormat::Jsonl];
 
 // A pair's line in a format.
 fn written(
@@ -21,9 +21,16 @@ fn written(
 }
 
 // Whether a line reads as this pair.
-fn is_pair(format: PairFormat, is_hex: bool, line: &[u8], key: &[u8], value: &[u8]) -> bool {
-    match line_of(format, is_hex, line) {
-        Line::Pair { key: k, value: v } => k.as_bytes() == key && v.as_bytes() == value,
+fn is_pair(
+    alloc: Global,
+    format: PairFormat,
+    is_hex: bool,
+    line: &[u8],
+    key: &[u8],
+    value: &[u8],
+) -> bool {
+    match line_of(alloc, format, is_hex, line) {
+        Ok(Line::Pair { key: k, value: v }) => k.as_bytes() == key && v.as_bytes() == value,
         _ => false,
     }
 }
@@ -36,7 +43,7 @@ fn is_again(alloc: Global, key: &[u8], value: &[u8]) -> Result<bool, AllocError>
             let Some(line) = text.as_slice().strip_suffix(b"\n") else {
                 return Ok(false);
             };
-            if line.contains(&b'\n') || !is_pair(format, is_hex, line, key, value) {
+            if line.contains(&b'\n') || !is_pair(alloc, format, is_hex, line, key, value) {
                 return Ok(false);
             }
         }
@@ -78,7 +85,7 @@ type Written = (
     &'static [u8],
 );
 
-const LINES: [Written; 10] = [
+const LINES: [Written; 14] = [
     (PairFormat::Words, false, b"ann", b"red", b"ann red\n"),
     (
         PairFormat::Words,
@@ -113,6 +120,34 @@ const LINES: [Written; 10] = [
     ),
     (PairFormat::Tsv, false, b"k", b"", b"k\t\n"),
     (PairFormat::Tsv, true, b"ann", b"\x09", b"616e6e\t09\n"),
+    (
+        PairFormat::Jsonl,
+        false,
+        b"ann",
+        b"",
+        b"{\"key\":\"ann\",\"value\":\"\"}\n",
+    ),
+    (
+        PairFormat::Jsonl,
+        false,
+        b"\xc3\xa9\"\\",
+        b"\n\x01",
+        b"{\"key\":\"\xc3\xa9\\\"\\\\\",\"value\":\"\\n\\u0001\"}\n",
+    ),
+    (
+        PairFormat::Jsonl,
+        false,
+        b"k",
+        b"\xff\x00",
+        b"{\"key\":\"k\",\"value_hex\":\"ff00\"}\n",
+    ),
+    (
+        PairFormat::Jsonl,
+        true,
+        b"k",
+        b"v",
+        b"{\"key_hex\":\"6b\",\"value_hex\":\"76\"}\n",
+    ),
 ];
 
 #[test]
@@ -124,7 +159,7 @@ fn lines_are_these(rt: HostRuntime) -> Result<(), Fail> {
     Ok(())
 }
 
-const READ: [Written; 6] = [
+const READ: [Written; 9] = [
     (
         PairFormat::Tsv,
         false,
@@ -149,19 +184,40 @@ const READ: [Written; 6] = [
     (PairFormat::Tsv, true, b"\xab", b"\xcd", b"aB\tCd"),
     (PairFormat::Words, true, b"\xab", b"", b"AB "),
     (PairFormat::Words, false, b"a", b"b", b"#61 #62"),
+    (
+        PairFormat::Jsonl,
+        false,
+        b"\xc3\xa9\xf0\x9f\x98\x80",
+        b"v",
+        b" { \"n\" : [1, {}], \"value\": \"\\u0076\", \"key\": \"\\u00e9\\ud83d\\ude00\" }\r",
+    ),
+    (
+        PairFormat::Jsonl,
+        true,
+        b"k",
+        b"v",
+        b"{\"key\":\"6B\",\"value_hex\":\"76\"}",
+    ),
+    (
+        PairFormat::Jsonl,
+        false,
+        b"k",
+        b"\x00",
+        b"{\"key\":\"k\",\"value\":\"v\",\"value\":\"\\u0000\"}",
+    ),
 ];
 
 #[test]
 fn other_spellings_are_read(rt: HostRuntime) {
     for (format, is_hex, key, value, line) in READ {
-        assert!(rt; is_pair(format, is_hex, line, key, value));
+        assert!(rt; is_pair(rt.alloc(), format, is_hex, line, key, value));
     }
 }
 
 // A format, whether it is in hexadecimal, a line, and why it is no pair.
 type Refused = (PairFormat, bool, &'static [u8], WrongLine);
 
-const WRONG: [Refused; 21] = [
+const WRONG: [Refused; 30] = [
     (PairFormat::Words, false, b"ann", WrongLine::NoValue),
     (PairFormat::Words, false, b"ann\tred", WrongLine::NoValue),
     (PairFormat::Words, false, b"# red", WrongLine::EmptyKey),
@@ -258,11 +314,60 @@ const WRONG: [Refused; 21] = [
         b"61\t61\t62",
         WrongLine::NoDigits { at: 6 },
     ),
+    (PairFormat::Jsonl, false, b"ann red", WrongLine::NoJson),
+    (
+        PairFormat::Jsonl,
+        false,
+        b"{\"key\":\"k\",\"value\":\"\xff\"}",
+        WrongLine::NoJson,
+    ),
+    (
+        PairFormat::Jsonl,
+        false,
+        b"{\"key\":\"k\",\"value\":\"v\"} {}",
+        WrongLine::NoJson,
+    ),
+    (
+        PairFormat::Jsonl,
+        false,
+        b"[\"k\",\"v\"]",
+        WrongLine::NoField(Field::Key),
+    ),
+    (
+        PairFormat::Jsonl,
+        false,
+        b"{\"key\":\"k\"}",
+        WrongLine::NoField(Field::Value),
+    ),
+    (
+        PairFormat::Jsonl,
+        false,
+        b"{\"key\":\"k\",\"value\":7}",
+        WrongLine::NoString(Field::Value),
+    ),
+    (
+        PairFormat::Jsonl,
+        false,
+        b"{\"key_hex\":\"6\",\"value\":\"v\"}",
+        WrongLine::NoHex(Field::Key),
+    ),
+    (
+        PairFormat::Jsonl,
+        false,
+        b"{\"key\":\"k\",\"key_hex\":\"6b\",\"value\":\"v\"}",
+        WrongLine::TwoFields(Field::Key),
+    ),
+    (
+        PairFormat::Jsonl,
+        false,
+        b"{\"key\":\"\",\"value\":\"v\"}",
+        WrongLine::EmptyKey,
+    ),
 ];
 
-fn wrong_in(format: PairFormat, is_hex: bool, line: &[u8]) -> Option<WrongLine> {
-    match line_of(format, is_hex, line) {
-        Line::Wrong(wrong) => Some(wrong),
+fn wrong_in(alloc: Global, format: PairFormat, is_hex: bool, line: &[u8]) -> Option<WrongLine> {
+    match line_of(alloc, format, is_hex, line) {
+        Ok(Line::Wrong(wrong)) => Some(wrong),
         _ => None,
     }
 }
@@ -270,7 +375,7 @@ fn wrong_in(format: PairFormat, is_hex: bool, line: &[u8]) -> Option<WrongLine> 
 #[test]
 fn wrong_lines_are_refused(rt: HostRuntime) {
     for (format, is_hex, line, want) in WRONG {
-        assert!(rt; wrong_in(format, is_hex, line) == Some(want));
+        assert!(rt; wrong_in(rt.alloc(), format, is_hex, line) == Some(want));
     }
 }
 
@@ -289,11 +394,11 @@ fn long_keys_and_values_are_refused(rt: HostRuntime) -> Result<(), Fail> {
             let key = written(rt.alloc(), format, is_hex, &bytes[..65], b"v")?;
             let value = written(rt.alloc(), format, is_hex, b"k", &bytes[..129])?;
             let both = written(rt.alloc(), format, is_hex, &bytes, &bytes)?;
-            let found = wrong_in(format, is_hex, without_newline(&key));
+            let found = wrong_in(rt.alloc(), format, is_hex, without_newline(&key));
             assert!(rt; found == Some(WrongLine::LongKey { length: 65 }));
-            let found = wrong_in(format, is_hex, without_newline(&value));
+            let found = wrong_in(rt.alloc(), format, is_hex, without_newline(&value));
             assert!(rt; found == Some(WrongLine::LongValue { length: 129 }));
-            let found = wrong_in(format, is_hex, without_newline(&both));
+            let found = wrong_in(rt.alloc(), format, is_hex, without_newline(&both));
             assert!(rt; found == Some(WrongLine::LongKey { length: 300 }));
         }
     }
@@ -301,17 +406,17 @@ fn long_keys_and_values_are_refused(rt: HostRuntime) -> Result<(), Fail> {
 }
 
 // Whether a line reads as an opening of this format.
-fn is_opening(line: &[u8], format: PairFormat) -> bool {
-    match line_of(PairFormat::Words, false, line) {
-        Line::Opening(found) => found == format,
+fn is_opening(alloc: Global, line: &[u8], format: PairFormat) -> bool {
+    match line_of(alloc, PairFormat::Words, false, line) {
+        Ok(Line::Opening(found)) => found == format,
         _ => false,
     }
 }
 
 // Whether a line reads as an end of so many pairs.
-fn is_end(line: &[u8], count: u64) -> bool {
-    match line_of(PairFormat::Tsv, true, line) {
-        Line::End(found) => found == count,
+fn is_end(alloc: Global, line: &[u8], count: u64) -> bool {
+    match line_of(alloc, PairFormat::Tsv, true, line) {
+        Ok(Line::End(found)) => found == count,
         _ => false,
     }
 }
@@ -322,17 +427,26 @@ fn openings_and_ends_are_read(rt: HostRuntime) -> Result<(), Fail> {
     push_opening(&mut text, PairFormat::Tsv)?;
     assert!(rt; text.as_slice() == b"# exhash export tsv\n".as_slice());
     push_opening(&mut text, PairFormat::Words)?;
-    push_end(&mut text, 1204)?;
+    push_end(&mut text, PairFormat::Words, 1204)?;
     let all = b"# exhash export tsv\n# exhash export words\n# exhash end 1204\n".as_slice();
     assert!(rt; text.as_slice() == all);
-    assert!(rt; is_opening(b"# exhash export tsv", PairFormat::Tsv));
-    assert!(rt; is_opening(b"# exhash export words", PairFormat::Words));
-    assert!(rt; is_end(b"# exhash end 0", 0));
-    assert!(rt; is_end(b"# exhash end 18446744073709551615", u64::MAX));
-    assert!(rt; !is_end(b"# exhash end 18446744073709551616", u64::MAX));
+    assert!(rt; is_opening(rt.alloc(), b"# exhash export tsv", PairFormat::Tsv));
+    assert!(rt; is_opening(rt.alloc(), b"# exhash export words", PairFormat::Words));
+    let mut json = Vec::new(rt.alloc());
+    push_opening(&mut json, PairFormat::Jsonl)?;
+    push_end(&mut json, PairFormat::Jsonl, 12)?;
+    let all = b"{\"exhash\":\"export\",\"format\":\"jsonl\"}\n{\"exhash\":\"end\",\"pairs\":12}\n";
+    assert!(rt; json.as_slice() == all.as_slice());
+    let opening = b"{\"exhash\":\"export\",\"format\":\"jsonl\"}";
+    assert!(rt; is_opening(rt.alloc(), opening.as_slice(), PairFormat::Jsonl));
+    assert!(rt; is_end(rt.alloc(), b"{\"exhash\":\"end\",\"pairs\":12}", 12));
+    assert!(rt; !is_end(rt.alloc(), b"{\"exhash\":\"end\",\"pairs\":12}}", 12));
+    assert!(rt; is_end(rt.alloc(), b"# exhash end 0", 0));
+    assert!(rt; is_end(rt.alloc(), b"# exhash end 18446744073709551615", u64::MAX));
+    assert!(rt; !is_end(rt.alloc(), b"# exhash end 18446744073709551616", u64::MAX));
     assert!(rt;
-        match line_of(PairFormat::Tsv, false, b"") {
-            Line::Empty => true,
+        match line_of(rt.alloc(), PairFormat::Tsv, false, b"") {
+            Ok(Line::Empty) => true,
             _ => false
         }
     );

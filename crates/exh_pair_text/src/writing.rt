@@ -1,13 +1,17 @@
 //! How pairs are written, one a line, and what an export begins and ends with.
-ghost use Rattle.std.specs.Prelude.{◌≡◌, ◌++◌, OnOk, flat_map};
+ghost use Rattle.std.specs.Prelude.{◌≡◌, ◌++◌, OnOk, decimal, flat_map};
 ghost use Rattle.exh_text.specs.Printing.{Keeps};
 ghost use Rattle.exh_pair_text.specs.Bytes.{byte_text};
-ghost use Rattle.exh_pair_text.specs.Lines.{end_line, field_text, opening_line, pair_line};
+ghost use Rattle.exh_pair_text.specs.Lines.{end_line, field_text, opening_line, pair_line, separated_words};
 
 use crate::PairFormat;
 use crate::byte_text::{push_byte, push_digits};
+use crate::json_object::push_object;
+use crate::separated::Separated;
 use exh_text::{push_number, push_text, push_value};
 use std::alloc::AllocError;
+
+const JSON_OPENING_LINE: &str = "{\"exhash\":\"export\",\"format\":\"jsonl\"}\n";
 
 /// Adds the line of a pair, with its newline. A key that has 1 to 64 bytes and a value that has at most 128 are read again.
 pub fn push_pair(
@@ -20,9 +24,11 @@ pub fn push_pair(
     ensures ok { OnOk result (text.new.items ≡ text.old.items ++ pair_line format is_hex key.now value.now) }
     ensures kept { Keeps text.old.items text.new.items }
 {
-    push_field(text, format, is_hex, key)?;
-    text.extend_from_slice([format.separator()].as_slice())?;
-    push_field(text, format, is_hex, value)?;
+    match format {
+        PairFormat::Words => push_separated(text, Separated::Words, is_hex, key, value)?,
+        PairFormat::Tsv => push_separated(text, Separated::Tsv, is_hex, key, value)?,
+        PairFormat::Jsonl => push_object(text, is_hex, key, value)?,
+    }
     push_text(text, "\n")
 }
 
@@ -31,25 +37,55 @@ pub fn push_opening(text: &mut Vec<u8>, format: PairFormat) -> Result<(), AllocE
     ensures ok { OnOk result (text.new.items ≡ text.old.items ++ opening_line format) }
     ensures kept { Keeps text.old.items text.new.items }
 {
+    if format == PairFormat::Jsonl {
+        return push_text(text, JSON_OPENING_LINE);
+    }
     push_text(text, "# exhash export ")?;
     push_text(text, format.name())?;
     push_text(text, "\n")
 }
 
 /// Adds the last line of an export, which has the number of its pairs.
-pub fn push_end(text: &mut Vec<u8>, count: u64) -> Result<(), AllocError>
-    ensures ok { OnOk result (text.new.items ≡ text.old.items ++ end_line count) }
+pub fn push_end(text: &mut Vec<u8>, format: PairFormat, count: u64) -> Result<(), AllocError>
+    ensures ok { OnOk result (text.new.items ≡ text.old.items ++ end_line format count) }
     ensures kept { Keeps text.old.items text.new.items }
 {
-    push_text(text, "# exhash end ")?;
+    if format == PairFormat::Jsonl {
+        return push_count(text, "{\"exhash\":\"end\",\"pairs\":", count, "}\n");
+    }
+    push_count(text, "# exhash end ", count, "\n")
+}
+
+// Adds a number between two texts.
+fn push_count(text: &mut Vec<u8>, before: &str, count: u64, behind: &str) -> Result<(), AllocError>
+    ensures ok { OnOk result (text.new.items ≡ text.old.items ++ (before.now ++ (decimal count ++ behind.now))) }
+    ensures kept { Keeps text.old.items text.new.items }
+{
+    push_text(text, before)?;
     push_number(text, count)?;
-    push_text(text, "\n")
+    push_text(text, behind)
+}
+
+// Adds a key, the separating byte, and a value.
+fn push_separated(
+    text: &mut Vec<u8>,
+    format: Separated,
+    is_hex: bool,
+    key: &[u8],
+    value: &[u8],
+) -> Result<(), AllocError>
+    ensures ok { OnOk result (text.new.items ≡ text.old.items ++ separated_words format is_hex key.now value.now) }
+    ensures kept { Keeps text.old.items text.new.items }
+{
+    push_field(text, format, is_hex, key)?;
+    text.extend_from_slice([format.separator()].as_slice())?;
+    push_field(text, format, is_hex, value)
 }
 
 // Adds a key or a value.
 fn push_field(
     text: &mut Vec<u8>,
-    format: PairFormat,
+    format: Separated,
     is_hex: bool,
     bytes: &[u8],
 ) -> Result<(), AllocError>
@@ -60,8 +96,8 @@ fn push_field(
         return push_digits(text, bytes);
     }
     match format {
-        PairFormat::Words => push_value(text, bytes),
-        PairFormat::Tsv => push_escaped(text, bytes),
+        Separated::Words => push_value(text, bytes),
+        Separated::Tsv => push_escaped(text, bytes),
     }
 }
 

@@ -29,4 +29,19 @@ pub enum WrongLine {
     /// A tab stands at this byte, behind the one between key and value.
     #[error("a second tab stands at byte {at}: in a value a tab is written \\t")]
     SecondTab { at: usize },
+    /// The line is no JSON in UTF-8.
+    #[error("it is no JSON object")]
+    NoJson,
+    /// The object has neither the field of the key or value nor the one with its hexadecimal digits.
+    #[error("it has neither the field {0} nor {0}_hex")]
+    NoField(Field),
+    /// The field of the key or value has no string.
+    #[error("the value of the field {0} or {0}_hex is no string")]
+    NoString(Field),
+    /// The string has another byte than hexadecimal digits, or an odd number of them.
+    #[error("its {0} in hexadecimal digits has another byte, or an odd number of digits")]
+    NoHex(Field),
+    /// The object has both fields.
+    #[error("it has both fields {0} and {0}_hex")]
+    TwoFields(Field),
 }
