@@ -20,7 +20,7 @@ _exhash() {
             case $last in
                 --cap | --wards | --wait) return ;;
                 --format)
-                    mapfile -t COMPREPLY < <(compgen -W 'words tsv' -- "$word")
+                    mapfile -t COMPREPLY < <(compgen -W 'words tsv jsonl' -- "$word")
                     return
                     ;;
                 --keyer)
@@ -34,7 +34,7 @@ _exhash() {
             case $last in
                 --wait) return ;;
                 --format)
-                    mapfile -t COMPREPLY < <(compgen -W 'words tsv' -- "$word")
+                    mapfile -t COMPREPLY < <(compgen -W 'words tsv jsonl' -- "$word")
                     return
                     ;;
             esac

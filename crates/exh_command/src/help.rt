@@ -353,7 +353,7 @@ fn format<'a>(alloc: Global) -> Arg<'a> {
     option(
         alloc,
         FORMAT,
-        "words|tsv",
+        "words|tsv|jsonl",
         "How pairs are written [default: words]",
     )
 }

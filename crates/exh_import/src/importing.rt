@@ -42,13 +42,14 @@ pub fn import<R: Read, S: ImportedStore, L: Rejects>(
         if is_over {
             return taking.finish(store);
         }
-        is_over = take_next(&mut lines, &mut taking, store, listener)?;
+        is_over = take_next(alloc, &mut lines, &mut taking, store, listener)?;
     }
     Err(ImportFault::LongLine { number: u64::MAX })
 }
 
 // Takes the next line, and says whether it is the last.
 fn take_next<R: Read, S: ImportedStore, L: Rejects>(
+    alloc: Global,
     lines: &mut LineReader<'_, R>,
     taking: &mut Taking,
     store: &mut S,
@@ -66,6 +67,6 @@ fn take_next<R: Read, S: ImportedStore, L: Rejects>(
 {
     lines.next_line(taking.imported.lines.saturating_add(1))?;
     let is_last = lines.is_over()?;
-    taking.take(lines.line(), is_last, store, listener)?;
+    taking.take(alloc, lines.line(), is_last, store, listener)?;
     Ok(is_last)
 }

@@ -6,6 +6,7 @@ ghost use Rattle.exh_import.specs.Imports.{Finishes, Puts, SavesBatch, TakesAmid
 use crate::{Added, ImportFault, ImportOptions, Imported, ImportedStore, Rejection, Rejects};
 use exh_page::{Key, Value};
 use exh_pair_text::{Line, PairFormat, line_of};
+use std::alloc::Global;
 
 // How far an import is.
 #[derive(Clone, Copy)]
@@ -41,6 +42,7 @@ impl Taking {
     // Takes the next line, which is the text's last one or isn't.
     pub(crate) fn take<S: ImportedStore, L: Rejects>(
         &mut self,
+        alloc: Global,
         line: &[u8],
         is_last: bool,
         store: &mut S,
@@ -51,7 +53,7 @@ impl Taking {
             (record { taking = self.new; store = store.new; listener = listener.new })) }
     {
         let is_first = self.imported.lines == 0;
-        let read = line_of(self.options.format, self.options.is_hex, line);
+        let read = line_of(alloc, self.options.format, self.options.is_hex, line)?;
         self.imported.lines = self.imported.lines.saturating_add(1);
         match first_opening(is_first, &read) {
             Some(found) => self.open(found, is_last),

@@ -1,8 +1,8 @@
 -- Where a byte cuts a line.
-use Rattle.std.proofs.Common.{◌≡◌, ◌≢◌, ℕ, zero, suc, ◌+◌, ◌<◌, List, [], ◌∷◌, ◌++◌, length, take, drop, get_or, Option, Some, None, refl, ap, ◌∙◌, arith}
+use Rattle.std.proofs.Common.{◌≡◌, ◌≢◌, ℕ, zero, suc, ◌+◌, ◌<◌, List, [], ◌∷◌, ◌++◌, length, take, drop, get_or, Option, Some, None, inl, inr, refl, sym, ap, ◌∙◌, arith}
 use Rattle.std.specs.List.{AllByRecursion}
 use Rattle.std.specs.Option.{option_map}
-use Rattle.std.proofs.lemmas.Bool.{ne_eqb}
+use Rattle.std.proofs.lemmas.Bool.{cases_eq, ne_eqb}
 use Rattle.std.proofs.lemmas.Bool.Decides.{nat_tests}
 use Rattle.memchr.specs.Find.{IsFirstByte, is_byte}
 use Rattle.exh_pair_text.specs.Reading.{cut_at}
@@ -28,6 +28,31 @@ pub cut_nowhere : (mark : ℕ) (line : List ℕ) → AllByRecursion (λ byte. by
 unfolding cut_at
 cut_nowhere mark [] all = refl
 cut_nowhere mark (byte ∷ line) all = other_byte mark byte line all.0 ∙ ap (put_before byte) (cut_nowhere mark line all.1)
+
+-- what stands before a cut, and behind it
+abbrev front_of : Option (List ℕ × List ℕ) → List ℕ
+front_of None = []
+front_of (Some parts) = parts.0
+
+abbrev rest_of : Option (List ℕ × List ℕ) → List ℕ
+rest_of None = []
+rest_of (Some parts) = parts.1
+
+cut_here : (mark byte : ℕ) (line front rest : List ℕ) → byte ≡ mark → Some ([], line) ≡ Some (front, rest) → byte ∷ line ≡ front ++ mark ∷ rest
+cut_here mark byte line front rest same is = rw (same, ← ap front_of is, ← ap rest_of is) refl
+
+cut_later : (mark byte : ℕ) (line front rest : List ℕ) (found : Option (List ℕ × List ℕ)) → ((f r : List ℕ) → found ≡ Some (f, r) → line ≡ f ++ mark ∷ r) → put_before byte found ≡ Some (front, rest)
+    → byte ∷ line ≡ front ++ mark ∷ rest
+cut_later mark byte line front rest None again is = cc
+cut_later mark byte line front rest (Some parts) again is = rw (← ap front_of is, ← ap rest_of is) (ap (λ (l : List ℕ). byte ∷ l) (again parts.0 parts.1 refl))
+
+pub cut_parts : (mark : ℕ) (line front rest : List ℕ) → cut_at mark line ≡ Some (front, rest) → line ≡ front ++ mark ∷ rest
+unfolding cut_at
+cut_parts mark [] front rest is = cc
+cut_parts mark (byte ∷ line) front rest is = elim (cases_eq byte mark) [
+  | inl same ↦ cut_here mark byte line front rest same (sym (same_byte mark byte line same) ∙ is)
+  | inr other ↦ cut_later mark byte line front rest (cut_at mark line) (cut_parts mark line) (sym (other_byte mark byte line other) ∙ is)
+]
 
 -- where it stands first
 pub cut_first : (mark : ℕ) (line : List ℕ) (end : ℕ) → end < length line → ((k : ℕ) → k < end → get_or line k 0 ≢ mark) → get_or line end 0 ≡ mark → cut_at mark line ≡ Some (take end line, drop (end + 1) line)

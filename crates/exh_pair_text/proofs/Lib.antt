@@ -4,4 +4,6 @@ pub mod Cases
 -- of what is written, which is read again
 pub mod Again
 pub mod Cuts
+pub mod JsonText
+pub mod JsonAgain
 pub mod Marks

@@ -19,14 +19,19 @@ use Rattle.exh_text.specs.TextLines.{newline}
 use Rattle.exh_pair_text.specs.declared.field.Field.TheVariants as field
 use Rattle.exh_pair_text.specs.declared.line.Line.TheVariants.{Pair}
 use Rattle.exh_pair_text.specs.declared.pair_format.PairFormat.{PairFormat}
-use Rattle.exh_pair_text.specs.declared.pair_format.PairFormat.TheVariants.{Words, Tsv}
+use Rattle.exh_pair_text.specs.declared.pair_format.PairFormat.TheVariants as whole
+use Rattle.exh_pair_text.specs.declared.separated.Separated.{Separated}
+use Rattle.exh_pair_text.specs.declared.separated.Separated.TheVariants.{Words, Tsv}
 use Rattle.exh_pair_text.specs.Formats.{format_named, separator, tab}
 use Rattle.exh_pair_text.specs.Laws.{AreBytes, IsPair, PairsAreOneLine, PairsAreRead}
-use Rattle.exh_pair_text.specs.Lines.{end_words, field_text, opening_words, pair_words}
-use Rattle.exh_pair_text.specs.Reading.{cut_at, end_in, line_read, opening_in, pair_in}
+use Rattle.exh_pair_text.specs.Json.{in_digits, json_words}
+use Rattle.exh_pair_text.specs.Lines.{end_words, field_text, json_end_words, json_opening, opening_words, pair_words, separated_words}
+use Rattle.exh_pair_text.specs.Reading.{before_end, cut_at, end_in, json_end_in, line_read, opening_in, or_else, pair_in, separated_pair}
 use Rattle.exh_pair_text.proofs.Again.{field_again, field_other, graphic_other}
 use Rattle.exh_pair_text.proofs.Cases.{key_kept, value_kept}
-use Rattle.exh_pair_text.proofs.Cuts.{cut_behind, cut_nowhere}
+use Rattle.exh_pair_text.proofs.Cuts.{cut_behind, cut_nowhere, cut_parts}
+use Rattle.exh_pair_text.proofs.JsonAgain.{json_again}
+use Rattle.exh_pair_text.proofs.JsonText.{begins_so, words_other}
 
 -- ---- optional values
 
@@ -46,11 +51,11 @@ prefixed prefix word rest found =
 
 -- ---- the cut of a pair's line
 
-key_other : (format : PairFormat) (hex : Bool) (key : List ℕ) → AllByRecursion (λ byte. byte < 256) key → AllByRecursion (λ byte. byte ≢ separator format) (field_text format hex key)
+key_other : (format : Separated) (hex : Bool) (key : List ℕ) → AllByRecursion (λ byte. byte < 256) key → AllByRecursion (λ byte. byte ≢ separator format) (field_text format hex key)
 key_other Words hex key all = field_other Words hex 32 key (omega arith) all
 key_other Tsv hex key all = field_other Tsv hex tab key (omega arith) all
 
-pair_cut : (format : PairFormat) (hex : Bool) (key value : List ℕ) → AllByRecursion (λ byte. byte < 256) key → cut_at (separator format) (pair_words format hex key value) ≡ Some (field_text format hex key, field_text format hex value)
+pair_cut : (format : Separated) (hex : Bool) (key value : List ℕ) → AllByRecursion (λ byte. byte < 256) key → cut_at (separator format) (separated_words format hex key value) ≡ Some (field_text format hex key, field_text format hex value)
 pair_cut format hex key value all = cut_behind (separator format) (field_text format hex key) (field_text format hex value) (key_other format hex key all)
 
 -- ---- words: a mark begins with the word `#`, which is no key
@@ -73,7 +78,7 @@ no_hash false key all some is =
     let none : Some key ≡ Some [] = sym (printed_again key all) ∙ ap bytes_of_word is ∙ hash_word in
     omega (arith, ap length (ap (λ found. unwrap_or found []) none))
 
-no_mark : (hex : Bool) (key value rest : List ℕ) → AllByRecursion (λ byte. byte < 256) key → 1 ≤ length key → pair_words Words hex key value ≡ 35 ∷ 32 ∷ rest → ⊥
+no_mark : (hex : Bool) (key value rest : List ℕ) → AllByRecursion (λ byte. byte < 256) key → 1 ≤ length key → separated_words Words hex key value ≡ 35 ∷ 32 ∷ rest → ⊥
 no_mark hex key value rest all some is =
     let cut = sym (pair_cut Words hex key value all) ∙ ap (cut_at 32) is ∙ hash_cut rest in
     no_hash hex key all some (ap first_part cut)
@@ -83,17 +88,18 @@ no_mark hex key value rest all some is =
 some_none : {A : Type 0} (x : A) → Some x ≡ None → ⊥
 some_none x is = false≢true (sym (ap is_some is))
 
-no_tab : (hex : Bool) (key value line : List ℕ) → AllByRecursion (λ byte. byte < 256) key → pair_words Tsv hex key value ≡ line → cut_at tab line ≡ None → ⊥
-no_tab hex key value line all is none =
-    some_none _ (sym (pair_cut Tsv hex key value all) ∙ ap (cut_at tab) is ∙ none)
+-- no line is one in which nothing parts a key from a value
+no_cut : (format : Separated) (hex : Bool) (key value line : List ℕ) → AllByRecursion (λ byte. byte < 256) key → separated_words format hex key value ≡ line → cut_at (separator format) line ≡ None → ⊥
+no_cut format hex key value line all is none =
+    some_none _ (sym (pair_cut format hex key value all) ∙ ap (cut_at (separator format)) is ∙ none)
 
 -- a test that tells
 eq_tells : {A : Type 0} (b : Bool) (x y : A) → Decides b (x ≡ y) → (x ≡ y) ⊎ ((b ≡ false) × (x ≡ y → ⊥))
 eq_tells true x y decides = inl (decides.0 refl)
 eq_tells false x y decides = inr (refl, λ same. absurd (false≢true (decides.1 same)))
 
-unnamed : (word : List ℕ) (format : PairFormat) → bytes_eq word (codes "words") ≡ false → bytes_eq word (codes "tsv") ≡ false → format_named word ≡ Some format → ⊥
-unnamed word format words tsv is = let none : None ≡ Some format = rw (words, tsv) at is in cc
+unnamed : (word : List ℕ) (format : PairFormat) → bytes_eq word (codes "words") ≡ false → bytes_eq word (codes "tsv") ≡ false → bytes_eq word (codes "jsonl") ≡ false → format_named word ≡ Some format → ⊥
+unnamed word format words tsv jsonl is = let none : None ≡ Some format = rw (words, tsv, jsonl) at is in cc
 
 named : (word : List ℕ) (format : PairFormat) → format_named word ≡ Some format → cut_at tab (opening_words ++ word) ≡ None
 unfolding cut_at
@@ -101,7 +107,10 @@ named word format is = elim (eq_tells (bytes_eq word (codes "words")) word (code
   | inl words ↦ rw words refl
   | inr other ↦ elim (eq_tells (bytes_eq word (codes "tsv")) word (codes "tsv") (bytes_eq-Decides word (codes "tsv"))) [
     | inl tsv ↦ rw tsv refl
-    | inr none ↦ absurd (unnamed word format other.0 none.0 is)
+    | inr neither ↦ elim (eq_tells (bytes_eq word (codes "jsonl")) word (codes "jsonl") (bytes_eq-Decides word (codes "jsonl"))) [
+      | inl jsonl ↦ rw jsonl refl
+      | inr none ↦ absurd (unnamed word format other.0 neither.0 none.0 is)
+    ]
   ]
 ]
 
@@ -122,30 +131,87 @@ counted word count is =
     let same = number_alone (2 ^ 64 - 1) count word (omega arith) is in
     counted_cut word (cut_nowhere tab word (rw same (graphic_other tab (decimal count) (omega arith) (decimal_graphic count small))))
 
+-- ---- JSON's marks have no space and no tab
+
+json_opening_cut : (format : Separated) → cut_at (separator format) json_opening ≡ None
+unfolding cut_at
+json_opening_cut Words = refl
+json_opening_cut Tsv = refl
+
+json_end_cut : (format : Separated) (text : List ℕ) → cut_at (separator format) text ≡ None → cut_at (separator format) (json_end_words ++ text) ≡ None
+unfolding cut_at
+json_end_cut Words text none = rw none refl
+json_end_cut Tsv text none = rw none refl
+
+separator_low : (format : Separated) → separator format < 33
+separator_low Words = omega arith
+separator_low Tsv = omega arith
+
+ended_other : (format : Separated) (word : List ℕ) → AllByRecursion (λ byte. byte ≢ separator format) word → AllByRecursion (λ byte. byte ≢ separator format) (word ++ 125 ∷ [])
+ended_other Words [] all = (λ is. absurd (omega arith), tt)
+ended_other Tsv [] all = (λ is. absurd (omega arith), tt)
+ended_other format (byte ∷ word) all = (all.0, ended_other format word all.1)
+
+number_other : (format : Separated) (word : List ℕ) (count : ℕ) → index_spelled word ≡ Some count → AllByRecursion (λ byte. byte ≢ separator format) (word ++ 125 ∷ [])
+number_other format word count is =
+    let small : count < 2 ^ 64 = index_small word count is in
+    let same = number_alone (2 ^ 64 - 1) count word (omega arith) is in
+    rw same (ended_other format (decimal count) (graphic_other (separator format) (decimal count) (separator_low format) (decimal_graphic count small)))
+
+before_is : (parts : Option (List ℕ × List ℕ)) (digits : List ℕ) → before_end parts ≡ Some digits → parts ≡ Some (digits, [])
+before_is None digits is = cc
+before_is (Some (front, [])) digits is = cc
+before_is (Some (front, byte ∷ rest)) digits is = cc
+
+json_counted : (format : Separated) (line : List ℕ) (count : ℕ) → json_end_in line ≡ Some count → cut_at (separator format) line ≡ None
+unfolding json_end_in
+json_counted format line count is =
+    let text = some_behind (λ text. option_and_then index_spelled (before_end (cut_at 125 text))) (after_prefix json_end_words line) count is in
+    let digits = some_behind index_spelled (before_end (cut_at 125 text.0)) count text.2 in
+    let parts = cut_parts 125 text.0 digits.0 [] (before_is (cut_at 125 text.0) digits.0 digits.1) in
+    let none : cut_at (separator format) text.0 ≡ None = rw parts (cut_nowhere (separator format) (digits.0 ++ 125 ∷ []) (number_other format digits.0 count digits.2)) in
+    rw (prefixed json_end_words line text.0 text.1) (json_end_cut format text.0 none)
+
 -- ---- no mark
 
-no_opening : (format : PairFormat) (hex : Bool) (key value : List ℕ) → AllByRecursion (λ byte. byte < 256) key → 1 ≤ length key → opening_in (pair_words format hex key value) ≡ None
-unfolding opening_in
-no_opening Words hex key value all some = none_from _ (λ named is.
-    let found = some_behind format_named (after_prefix opening_words (pair_words Words hex key value)) named is in
-    no_mark hex key value (drop 2 opening_words ++ found.0) all some (prefixed opening_words (pair_words Words hex key value) found.0 found.1))
-no_opening Tsv hex key value all some = none_from _ (λ format is.
-    let found = some_behind format_named (after_prefix opening_words (pair_words Tsv hex key value)) format is in
-    no_tab hex key value (opening_words ++ found.0) all (prefixed opening_words (pair_words Tsv hex key value) found.0 found.1) (named found.0 format found.2))
+words_opening : (format : Separated) (hex : Bool) (key value : List ℕ) → AllByRecursion (λ byte. byte < 256) key → 1 ≤ length key → option_and_then format_named (after_prefix opening_words (separated_words format hex key value)) ≡ None
+words_opening Words hex key value all some = none_from _ (λ named is.
+    let found = some_behind format_named (after_prefix opening_words (separated_words Words hex key value)) named is in
+    no_mark hex key value (drop 2 opening_words ++ found.0) all some (prefixed opening_words (separated_words Words hex key value) found.0 found.1))
+words_opening Tsv hex key value all some = none_from _ (λ format is.
+    let found = some_behind format_named (after_prefix opening_words (separated_words Tsv hex key value)) format is in
+    no_cut Tsv hex key value (opening_words ++ found.0) all (prefixed opening_words (separated_words Tsv hex key value) found.0 found.1) (named found.0 format found.2))
 
-no_end : (format : PairFormat) (hex : Bool) (key value : List ℕ) → AllByRecursion (λ byte. byte < 256) key → 1 ≤ length key → end_in (pair_words format hex key value) ≡ None
+opening_by : (line : List ℕ) → (line ≡ json_opening → ⊥) → option_and_then format_named (after_prefix opening_words line) ≡ None → opening_in line ≡ None
+unfolding opening_in
+opening_by line other none = elim (eq_tells (bytes_eq line json_opening) line json_opening (bytes_eq-Decides line json_opening)) [
+  | inl is ↦ absurd (other is)
+  | inr no ↦ rw (no.0, none) refl
+]
+
+no_opening : (format : Separated) (hex : Bool) (key value : List ℕ) → AllByRecursion (λ byte. byte < 256) key → 1 ≤ length key → opening_in (separated_words format hex key value) ≡ None
+no_opening format hex key value all some =
+    opening_by (separated_words format hex key value) (λ is. no_cut format hex key value json_opening all is (json_opening_cut format)) (words_opening format hex key value all some)
+
+words_end : (format : Separated) (hex : Bool) (key value : List ℕ) → AllByRecursion (λ byte. byte < 256) key → 1 ≤ length key → option_and_then index_spelled (after_prefix end_words (separated_words format hex key value)) ≡ None
+words_end Words hex key value all some = none_from _ (λ count is.
+    let found = some_behind index_spelled (after_prefix end_words (separated_words Words hex key value)) count is in
+    no_mark hex key value (drop 2 end_words ++ found.0) all some (prefixed end_words (separated_words Words hex key value) found.0 found.1))
+words_end Tsv hex key value all some = none_from _ (λ count is.
+    let found = some_behind index_spelled (after_prefix end_words (separated_words Tsv hex key value)) count is in
+    no_cut Tsv hex key value (end_words ++ found.0) all (prefixed end_words (separated_words Tsv hex key value) found.0 found.1) (counted found.0 count found.2))
+
+no_end : (format : Separated) (hex : Bool) (key value : List ℕ) → AllByRecursion (λ byte. byte < 256) key → 1 ≤ length key → end_in (separated_words format hex key value) ≡ None
 unfolding end_in
-no_end Words hex key value all some = none_from _ (λ count is.
-    let found = some_behind index_spelled (after_prefix end_words (pair_words Words hex key value)) count is in
-    no_mark hex key value (drop 2 end_words ++ found.0) all some (prefixed end_words (pair_words Words hex key value) found.0 found.1))
-no_end Tsv hex key value all some = none_from _ (λ count is.
-    let found = some_behind index_spelled (after_prefix end_words (pair_words Tsv hex key value)) count is in
-    no_tab hex key value (end_words ++ found.0) all (prefixed end_words (pair_words Tsv hex key value) found.0 found.1) (counted found.0 count found.2))
+no_end format hex key value all some =
+    let json : json_end_in (separated_words format hex key value) ≡ None = none_from _ (λ count is.
+        no_cut format hex key value (separated_words format hex key value) all refl (json_counted format (separated_words format hex key value) count is)) in
+    rw (words_end format hex key value all some, json) refl
 
 -- ---- the pair
 
-pair_again : (format : PairFormat) (hex : Bool) (key value : List ℕ) → IsPair key value → pair_in format hex (pair_words format hex key value) ≡ Ok (key, value)
-unfolding pair_in
+pair_again : (format : Separated) (hex : Bool) (key value : List ℕ) → IsPair key value → separated_pair format hex (separated_words format hex key value) ≡ Ok (key, value)
+unfolding separated_pair
 pair_again format hex key value pair =
     let keys = recursion_from_All _ key pair.key_bytes in
     let values = recursion_from_All _ value pair.value_bytes in
@@ -162,24 +228,50 @@ unfolding line_read
 line_by format hex [] pair opening end is some = absurd (some refl)
 line_by format hex (byte ∷ line) pair opening end is some = rw (opening, end, is) refl
 
-not_empty : (format : PairFormat) (hex : Bool) (key value : List ℕ) → pair_words format hex key value ≡ [] → ⊥
+not_empty : (format : Separated) (hex : Bool) (key value : List ℕ) → separated_words format hex key value ≡ [] → ⊥
 not_empty format hex key value is = omega (arith, ap length is, length-append (field_text format hex key) (separator format ∷ field_text format hex value))
 
-pub pairs_are_read : PairsAreRead
-pairs_are_read format hex key value pair =
-    let keys = recursion_from_All _ key pair.key_bytes in
-    line_by format hex (pair_words format hex key value) (key, value) (no_opening format hex key value keys pair.some) (no_end format hex key value keys pair.some)
-    (pair_again format hex key value pair) (not_empty format hex key value)
+-- an object is no mark
+object_opening : (rest : List ℕ) → opening_in (123 ∷ 34 ∷ 107 ∷ rest) ≡ None
+unfolding opening_in
+object_opening rest = refl
 
-newline_other : (format : PairFormat) (hex : Bool) (bytes : List ℕ) → AreBytes bytes → All (λ byte. byte ≢ newline) (field_text format hex bytes)
+object_end : (rest : List ℕ) → end_in (123 ∷ 34 ∷ 107 ∷ rest) ≡ None
+unfolding end_in json_end_in
+object_end rest = refl
+
+object_read : (hex : Bool) (key value : List ℕ) → IsPair key value → line_read whole.Jsonl hex (json_words hex key value) ≡ Pair key value
+object_read hex key value pair =
+    let begins = begins_so (in_digits hex key) (in_digits hex value) key value in
+    line_by whole.Jsonl hex (json_words hex key value) (key, value) (ap opening_in begins.1 ∙ object_opening begins.0) (ap end_in begins.1 ∙ object_end begins.0) (json_again hex key value pair)
+    (λ is. omega (arith, ap length is, ap length begins.1))
+
+words_read : (format : PairFormat) (apart : Separated) (hex : Bool) (key value : List ℕ) → IsPair key value → pair_in format hex (separated_words apart hex key value) ≡ separated_pair apart hex (separated_words apart hex key value)
+    → line_read format hex (separated_words apart hex key value) ≡ Pair key value
+words_read format apart hex key value pair same =
+    let keys = recursion_from_All _ key pair.key_bytes in
+    line_by format hex (separated_words apart hex key value) (key, value) (no_opening apart hex key value keys pair.some) (no_end apart hex key value keys pair.some)
+    (same ∙ pair_again apart hex key value pair) (not_empty apart hex key value)
+
+pub pairs_are_read : PairsAreRead
+pairs_are_read whole.Words hex key value pair = words_read whole.Words Words hex key value pair refl
+pairs_are_read whole.Tsv hex key value pair = words_read whole.Tsv Tsv hex key value pair refl
+pairs_are_read whole.Jsonl hex key value pair = object_read hex key value pair
+
+newline_other : (format : Separated) (hex : Bool) (bytes : List ℕ) → AreBytes bytes → All (λ byte. byte ≢ newline) (field_text format hex bytes)
 newline_other Words hex bytes all = All-from_recursion _ _ (field_other Words hex newline bytes (omega arith) (recursion_from_All _ bytes all))
 newline_other Tsv hex bytes all = All-from_recursion _ _ (field_other Tsv hex newline bytes (omega arith) (recursion_from_All _ bytes all))
 
-separator_other : (format : PairFormat) → separator format ≢ newline
+separator_other : (format : Separated) → separator format ≢ newline
 separator_other Words is = omega arith
 separator_other Tsv is = omega arith
 
-pub pairs_are_one_line : PairsAreOneLine
-pairs_are_one_line format hex key value pair =
+words_one_line : (format : Separated) (hex : Bool) (key value : List ℕ) → IsPair key value → All (λ byte. byte ≢ newline) (separated_words format hex key value)
+words_one_line format hex key value pair =
     All-append (λ byte. byte ≢ newline) (field_text format hex key) (separator format ∷ field_text format hex value) (newline_other format hex key pair.key_bytes)
     (All-cons (λ byte. byte ≢ newline) (separator format) (field_text format hex value) (separator_other format) (newline_other format hex value pair.value_bytes))
+
+pub pairs_are_one_line : PairsAreOneLine
+pairs_are_one_line whole.Words hex key value pair = words_one_line Words hex key value pair
+pairs_are_one_line whole.Tsv hex key value pair = words_one_line Tsv hex key value pair
+pairs_are_one_line whole.Jsonl hex key value pair = All-from_recursion _ _ (words_other (in_digits hex key) (in_digits hex value) key value)

@@ -52,7 +52,7 @@ impl CommandOption {
             CommandOption::Cap => "a number from 1 to 16",
             CommandOption::Wards => "a number from 0 to 4",
             CommandOption::Keyer => "`sha` or `plain`",
-            CommandOption::Format => "`words` or `tsv`",
+            CommandOption::Format => "`words`, `tsv` or `jsonl`",
             CommandOption::Hex
             | CommandOption::Raw
             | CommandOption::New

@@ -13,7 +13,7 @@ line_of_pair format hex pair = pair_line format hex pair.0 pair.1
 -- the pairs, each on a line, and where they aren't bare the lines before and behind them
 abbrev pub export_text : PairFormat → Bool → Bool → List (List ℕ × List ℕ) → List ℕ
 export_text format hex true pairs = flat_map (line_of_pair format hex) pairs
-export_text format hex false pairs = opening_line format ++ (flat_map (line_of_pair format hex) pairs ++ end_line (length pairs))
+export_text format hex false pairs = opening_line format ++ (flat_map (line_of_pair format hex) pairs ++ end_line format (length pairs))
 
 -- the pairs are read, or aren't
 abbrev pub export_ended : PairFormat → Bool → Bool → Result (List (List ℕ × List ℕ)) StoreError → Ended

@@ -88,7 +88,7 @@ fn export_text(
     }
     push_opening(&mut text, format)?;
     push_pairs(&mut text, format, is_hex, pairs)?;
-    push_end(&mut text, pairs.len() as u64)?;
+    push_end(&mut text, format, pairs.len() as u64)?;
     Ok(text)
 }
 
