@@ -134,7 +134,7 @@ printable_other mark (byte ∷ text) small all =
 digit_graphic : (value : ℕ) → value < 16 → is_ascii_graphic (slice_index lower_digits value) ≡ true
 digit_graphic value small = rw (digit_is value small) (grind (arith, nat_tests))
 
-hex_graphic : (bytes : List ℕ) → AllByRecursion (λ byte. byte < 256) bytes → list_all is_ascii_graphic (encode_lower bytes) ≡ true
+pub hex_graphic : (bytes : List ℕ) → AllByRecursion (λ byte. byte < 256) bytes → list_all is_ascii_graphic (encode_lower bytes) ≡ true
 unfolding encode_with
 hex_graphic [] all = refl
 hex_graphic (byte ∷ bytes) all =

@@ -38,19 +38,25 @@ abbrev rest_of : Option (List ℕ × List ℕ) → List ℕ
 rest_of None = []
 rest_of (Some parts) = parts.1
 
-cut_here : (mark byte : ℕ) (line front rest : List ℕ) → byte ≡ mark → Some ([], line) ≡ Some (front, rest) → byte ∷ line ≡ front ++ mark ∷ rest
-cut_here mark byte line front rest same is = rw (same, ← ap front_of is, ← ap rest_of is) refl
+cut_here : (mark byte : ℕ) (line front rest : List ℕ) (found : Option (List ℕ × List ℕ)) → byte ≡ mark → found ≡ Some ([], line) → found ≡ Some (front, rest) → byte ∷ line ≡ front ++ mark ∷ rest
+cut_here mark byte line front rest found same here is =
+    let f : [] ≡ front = ap front_of (sym here ∙ is) in
+    let r : line ≡ rest = ap rest_of (sym here ∙ is) in
+    rw (same, ← f, ← r) refl
 
 cut_later : (mark byte : ℕ) (line front rest : List ℕ) (found : Option (List ℕ × List ℕ)) → ((f r : List ℕ) → found ≡ Some (f, r) → line ≡ f ++ mark ∷ r) → put_before byte found ≡ Some (front, rest)
     → byte ∷ line ≡ front ++ mark ∷ rest
 cut_later mark byte line front rest None again is = cc
-cut_later mark byte line front rest (Some parts) again is = rw (← ap front_of is, ← ap rest_of is) (ap (λ (l : List ℕ). byte ∷ l) (again parts.0 parts.1 refl))
+cut_later mark byte line front rest (Some parts) again is =
+    let f : byte ∷ parts.0 ≡ front = ap front_of is in
+    let r : parts.1 ≡ rest = ap rest_of is in
+    rw (← f, ← r) (ap (λ (l : List ℕ). byte ∷ l) (again parts.0 parts.1 refl))
 
 pub cut_parts : (mark : ℕ) (line front rest : List ℕ) → cut_at mark line ≡ Some (front, rest) → line ≡ front ++ mark ∷ rest
 unfolding cut_at
 cut_parts mark [] front rest is = cc
 cut_parts mark (byte ∷ line) front rest is = elim (cases_eq byte mark) [
-  | inl same ↦ cut_here mark byte line front rest same (sym (same_byte mark byte line same) ∙ is)
+  | inl same ↦ cut_here mark byte line front rest (cut_at mark (byte ∷ line)) same (same_byte mark byte line same) is
   | inr other ↦ cut_later mark byte line front rest (cut_at mark line) (cut_parts mark line) (sym (other_byte mark byte line other) ∙ is)
 ]
 

@@ -1,12 +1,11 @@
 -- The object of a pair reads as the pair.
-use Rattle.std.proofs.Common.{◌≡◌, ℕ, ◌<◌, ◌≤◌, List, Bool, true, false, length, Some, Ok, IsUtf8, refl, sym, ap, ◌∙◌, subst, arith}
+use Rattle.std.proofs.Common.{◌≡◌, ℕ, ◌<◌, List, Bool, true, false, Some, Ok, IsUtf8, refl, sym, arith}
 use Rattle.std.specs.Prelude.{◌||◌, not}
 use Rattle.std.specs.Str.{is_utf8}
 use Rattle.std.specs.List.{AllByRecursion}
-use Rattle.std.proofs.lemmas.Bool.{false≢true}
 use Rattle.std.proofs.lemmas.List.Elements.{recursion_from_All}
 use Rattle.std.proofs.lemmas.Str.{IsUtf8-from_is_utf8, is_utf8-from_IsUtf8}
-use Rattle.json.proofs.Trees.{document-print}
+use Rattle.json.proofs.Printed.Trees.{document-print}
 use Rattle.exh_pair_text.specs.declared.field.Field.TheVariants.{Key, Value}
 use Rattle.exh_pair_text.specs.Json.{in_digits, json_words, pair_object, string_by}
 use Rattle.exh_pair_text.specs.Laws.{IsPair}

@@ -1,6 +1,6 @@
 -- The text of a pair's object: how it begins, that it is UTF-8, and that it is one line.
-use Rattle.std.proofs.Common.{◌≡◌, ◌≢◌, ℕ, zero, suc, ◌<◌, ◌≤◌, List, [], ◌∷◌, ◌++◌, Bool, true, false, cond, ◌&&◌, nat_lt, IsUtf8, inl, inr, refl, sym, ap, ◌∙◌, flat_map, arith, ⊤}
-use Rattle.std.specs.Prelude.{nat_eq, not}
+use Rattle.std.proofs.Common.{◌≡◌, ◌≢◌, ℕ, zero, suc, ◌<◌, List, [], ◌∷◌, ◌++◌, Bool, true, false, cond, ◌&&◌, nat_lt, IsUtf8, inl, inr, refl, ◌∙◌, arith}
+use Rattle.std.specs.Prelude.{nat_eq, not, ⊤}
 use Rattle.std.specs.Char.{is_ascii_graphic}
 use Rattle.std.specs.List.{AllByRecursion, list_all}
 use Rattle.std.proofs.lemmas.Bool.{and_parts, cases_eq, cases_lt}

@@ -4,6 +4,7 @@ pub mod Cases
 -- of what is written, which is read again
 pub mod Again
 pub mod Cuts
+pub mod JsonCases
 pub mod JsonText
 pub mod JsonAgain
 pub mod Marks

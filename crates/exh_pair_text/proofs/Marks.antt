@@ -25,8 +25,8 @@ use Rattle.exh_pair_text.specs.declared.separated.Separated.TheVariants.{Words, 
 use Rattle.exh_pair_text.specs.Formats.{format_named, separator, tab}
 use Rattle.exh_pair_text.specs.Laws.{AreBytes, IsPair, PairsAreOneLine, PairsAreRead}
 use Rattle.exh_pair_text.specs.Json.{in_digits, json_words}
-use Rattle.exh_pair_text.specs.Lines.{end_words, field_text, json_end_words, json_opening, opening_words, pair_words, separated_words}
-use Rattle.exh_pair_text.specs.Reading.{before_end, cut_at, end_in, json_end_in, line_read, opening_in, or_else, pair_in, separated_pair}
+use Rattle.exh_pair_text.specs.Lines.{end_words, field_text, json_end_words, json_opening, opening_words, separated_words}
+use Rattle.exh_pair_text.specs.Reading.{before_end, cut_at, end_in, json_end_in, line_read, opening_in, pair_in, separated_pair}
 use Rattle.exh_pair_text.proofs.Again.{field_again, field_other, graphic_other}
 use Rattle.exh_pair_text.proofs.Cases.{key_kept, value_kept}
 use Rattle.exh_pair_text.proofs.Cuts.{cut_behind, cut_nowhere, cut_parts}
@@ -186,7 +186,7 @@ opening_by : (line : List ℕ) → (line ≡ json_opening → ⊥) → option_an
 unfolding opening_in
 opening_by line other none = elim (eq_tells (bytes_eq line json_opening) line json_opening (bytes_eq-Decides line json_opening)) [
   | inl is ↦ absurd (other is)
-  | inr no ↦ rw (no.0, none) refl
+  | inr unlike ↦ rw (unlike.0, none) refl
 ]
 
 no_opening : (format : Separated) (hex : Bool) (key value : List ℕ) → AllByRecursion (λ byte. byte < 256) key → 1 ≤ length key → opening_in (separated_words format hex key value) ≡ None
@@ -205,7 +205,7 @@ no_end : (format : Separated) (hex : Bool) (key value : List ℕ) → AllByRecur
 unfolding end_in
 no_end format hex key value all some =
     let json : json_end_in (separated_words format hex key value) ≡ None = none_from _ (λ count is.
-        no_cut format hex key value (separated_words format hex key value) all refl (json_counted format (separated_words format hex key value) count is)) in
+    no_cut format hex key value (separated_words format hex key value) all refl (json_counted format (separated_words format hex key value) count is)) in
     rw (words_end format hex key value all some, json) refl
 
 -- ---- the pair

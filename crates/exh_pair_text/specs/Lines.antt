@@ -42,10 +42,24 @@ json_opening = codes "{\"exhash\":\"export\",\"format\":\"jsonl\"}"
 abbrev pub json_end_words : List ℕ
 json_end_words = codes "{\"exhash\":\"end\",\"pairs\":"
 
+abbrev pub opening_text : PairFormat → List ℕ
+opening_text Words = opening_words ++ format_name Words
+opening_text Tsv = opening_words ++ format_name Tsv
+opening_text Jsonl = json_opening
+
 abbrev pub opening_line : PairFormat → List ℕ
-opening_line Jsonl = on_line json_opening
-opening_line format = on_line (opening_words ++ format_name format)
+opening_line format = on_line (opening_text format)
+
+-- what stands before the number of pairs, and behind it
+abbrev pub end_before : PairFormat → List ℕ
+end_before Words = end_words
+end_before Tsv = end_words
+end_before Jsonl = json_end_words
+
+abbrev pub end_behind : PairFormat → List ℕ
+end_behind Words = codes "\n"
+end_behind Tsv = codes "\n"
+end_behind Jsonl = codes "}\n"
 
 abbrev pub end_line : PairFormat → ℕ → List ℕ
-end_line Jsonl count = json_end_words ++ (decimal count ++ on_line (codes "}"))
-end_line format count = on_line (end_words ++ decimal count)
+end_line format count = end_before format ++ (decimal count ++ end_behind format)

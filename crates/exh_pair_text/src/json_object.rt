@@ -1,5 +1,6 @@
 //! How a pair is written as a JSON object.
-ghost use Rattle.std.specs.Prelude.{◌≡◌, ◌++◌, [], ◌∷◌, IfOk, OnOk};
+ghost use Rattle.std.specs.Prelude.{◌≡◌, ◌++◌, [], ◌∷◌, true, false, IfNone, IfOk, IfSome, OnOk};
+ghost use Rattle.hex.specs.Hex.{encode_lower};
 ghost use Rattle.json.specs.Token.{key as key_token, string as string_token};
 ghost use Rattle.exh_text.specs.Printing.{Keeps};
 ghost use Rattle.exh_pair_text.specs.Json.{digits_name, in_digits, json_words, name_by, plain_name, string_by};
@@ -68,13 +69,39 @@ fn push_field(
     ensures tokens { OnOk result (writer.new.tokens ≡ writer.old.tokens
         ++ (key_token (name_by (in_digits is_hex bytes.now) field) ∷ string_token (string_by (in_digits is_hex bytes.now) bytes.now) ∷ [])) }
 {
-    match std::str::from_utf8(bytes) {
-        Ok(text) if !is_hex => push_member(writer, field.plain_name(), text),
-        _ => {
-            let digits = hex::encode(alloc, bytes)?;
-            push_member(writer, field.digits_name(), digits.as_str())
-        }
+    match plain_text(is_hex, bytes) {
+        Some(text) => push_member(writer, field.plain_name(), text),
+        None => push_in_digits(writer, alloc, field, bytes),
     }
+}
+
+// The text of bytes that aren't written in digits.
+fn plain_text(is_hex: bool, bytes: &[u8]) -> Option<&str>
+    ensures some { IfSome result (λ text. (text.now ≡ bytes.now) × (in_digits is_hex bytes.now ≡ false)) }
+    ensures none { IfNone result (in_digits is_hex bytes.now ≡ true) }
+{
+    if is_hex {
+        return None;
+    }
+    match std::str::from_utf8(bytes) {
+        Ok(text) => Some(text),
+        Err(_) => None,
+    }
+}
+
+// Adds a field with hexadecimal digits.
+fn push_in_digits(
+    writer: &mut Writer,
+    alloc: Global,
+    field: Field,
+    bytes: &[u8],
+) -> Result<(), AllocError>
+    ensures before { writer.new.before ≡ writer.old.before }
+    ensures tokens { OnOk result (writer.new.tokens ≡ writer.old.tokens
+        ++ (key_token (digits_name field) ∷ string_token (encode_lower bytes.now) ∷ [])) }
+{
+    let digits = hex::encode(alloc, bytes)?;
+    push_member(writer, field.digits_name(), digits.as_str())
 }
 
 // Adds a field of this name, with a string.

@@ -14,7 +14,7 @@ use json::{Error, Scratch, Value as Json};
 use std::alloc::{AllocError, Global};
 
 /// The pair of a line, which is to be a JSON object in UTF-8.
-#[tactic(auto, unfolding(crate::specs::Reading::json_pair))]
+#[tactic(auto, using(crate::proofs::JsonCases::json_ok, crate::proofs::JsonCases::json_refused))]
 pub(crate) fn json_pair(
     alloc: Global,
     is_hex: bool,
@@ -25,8 +25,8 @@ pub(crate) fn json_pair(
     let mut scratch = Scratch::new(alloc);
     match Json::from_slice(alloc, line, &mut scratch) {
         Ok(json) => Ok(object_pair(is_hex, &json)),
-        Err(Error::OutOfMemory) => Err(AllocError),
-        Err(_) => Ok(Err(WrongLine::NoJson)),
+        Err(Error::Invalid) => Ok(Err(WrongLine::NoJson)),
+        Err(_) => Err(AllocError),
     }
 }
 

@@ -1,5 +1,6 @@
 ghost use Rattle.std.specs.Prelude.{◌≡◌};
 ghost use Rattle.exh_pair_text.specs.Formats.{format_name, format_named};
+ghost use Rattle.exh_pair_text.specs.Lines.{end_before, end_behind, opening_text};
 
 /// How a text has its pairs.
 #[derive(Clone, Copy, Debug, PartialEq, Eq)]
@@ -33,6 +34,37 @@ impl PairFormat {
             PairFormat::Words => "words",
             PairFormat::Tsv => "tsv",
             PairFormat::Jsonl => "jsonl",
+        }
+    }
+
+    // The first line of an export.
+    pub(crate) fn opening(self) -> &'static str
+        ensures { result.now ≡ opening_text self }
+    {
+        match self {
+            PairFormat::Words => "# exhash export words",
+            PairFormat::Tsv => "# exhash export tsv",
+            PairFormat::Jsonl => "{\"exhash\":\"export\",\"format\":\"jsonl\"}",
+        }
+    }
+
+    // What stands in its last line before the number of pairs.
+    pub(crate) fn end_before(self) -> &'static str
+        ensures { result.now ≡ end_before self }
+    {
+        match self {
+            PairFormat::Words | PairFormat::Tsv => "# exhash end ",
+            PairFormat::Jsonl => "{\"exhash\":\"end\",\"pairs\":",
+        }
+    }
+
+    // What stands there behind it.
+    pub(crate) fn end_behind(self) -> &'static str
+        ensures { result.now ≡ end_behind self }
+    {
+        match self {
+            PairFormat::Words | PairFormat::Tsv => "\n",
+            PairFormat::Jsonl => "}\n",
         }
     }
 }

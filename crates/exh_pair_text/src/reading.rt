@@ -2,7 +2,8 @@
 ghost use Rattle.std.specs.Prelude.{◌≡◌, ◌+◌, ◌<◌, length, IfOk, IfSome};
 ghost use Rattle.std.specs.Option.{option_and_then};
 ghost use Rattle.exh_text.specs.Numbers.{after_prefix, index_spelled};
-ghost use Rattle.exh_pair_text.specs.Lines.{end_words};
+ghost use Rattle.exh_pair_text.specs.Lines.{end_words, opening_words};
+ghost use Rattle.exh_pair_text.specs.Formats.{format_named};
 ghost use Rattle.exh_pair_text.specs.Reading.{cut_at, end_in, json_end_in, line_read, opening_in, pair_in, pair_or_wrong, separated_pair};
 ghost use Rattle.exh_pair_text.specs.Reads.{cut_lists};
 
@@ -58,6 +59,13 @@ fn opening_in(line: &[u8]) -> Option<PairFormat>
     if line == JSON_OPENING.as_bytes() {
         return Some(PairFormat::Jsonl);
     }
+    words_opening_in(line)
+}
+
+// The same of one that is no JSON.
+fn words_opening_in(line: &[u8]) -> Option<PairFormat>
+    ensures { result ≡ option_and_then format_named (after_prefix opening_words line.now) }
+{
     PairFormat::named(line.strip_prefix(b"# exhash export ")?)
 }
 

@@ -11,8 +11,6 @@ use crate::separated::Separated;
 use exh_text::{push_number, push_text, push_value};
 use std::alloc::AllocError;
 
-const JSON_OPENING_LINE: &str = "{\"exhash\":\"export\",\"format\":\"jsonl\"}\n";
-
 /// Adds the line of a pair, with its newline. A key that has 1 to 64 bytes and a value that has at most 128 are read again.
 pub fn push_pair(
     text: &mut Vec<u8>,
@@ -37,11 +35,7 @@ pub fn push_opening(text: &mut Vec<u8>, format: PairFormat) -> Result<(), AllocE
     ensures ok { OnOk result (text.new.items ≡ text.old.items ++ opening_line format) }
     ensures kept { Keeps text.old.items text.new.items }
 {
-    if format == PairFormat::Jsonl {
-        return push_text(text, JSON_OPENING_LINE);
-    }
-    push_text(text, "# exhash export ")?;
-    push_text(text, format.name())?;
+    push_text(text, format.opening())?;
     push_text(text, "\n")
 }
 
@@ -50,10 +44,7 @@ pub fn push_end(text: &mut Vec<u8>, format: PairFormat, count: u64) -> Result<()
     ensures ok { OnOk result (text.new.items ≡ text.old.items ++ end_line format count) }
     ensures kept { Keeps text.old.items text.new.items }
 {
-    if format == PairFormat::Jsonl {
-        return push_count(text, "{\"exhash\":\"end\",\"pairs\":", count, "}\n");
-    }
-    push_count(text, "# exhash end ", count, "\n")
+    push_count(text, format.end_before(), count, format.end_behind())
 }
 
 // Adds a number between two texts.
