@@ -63,7 +63,7 @@ impl fmt::Display for WrongRequest {
             WrongCause::TooMany => write!(f, "`{command}` takes fewer words"),
             WrongCause::PathNotText(place) => write!(
                 f,
-                "the {} of `{command}` is not UTF-8: go to its folder and name it by a relative path, as ./people.exh",
+                "the {} of `{command}` is not UTF-8, as a page file's whole path must be",
                 place.name(),
             ),
             WrongCause::NotHex(place) => {
