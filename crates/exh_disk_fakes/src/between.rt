@@ -8,6 +8,7 @@ use crate::past::PATH;
 use crate::{MemoryDisk, MemoryOpened, Saver, Side};
 use exh_disk::Seen;
 use exh_saving::{Source, SourceFault, Target, Watch, save};
+use std::cell::Cell;
 use std::io;
 use std::io::Write;
 
@@ -61,7 +62,8 @@ impl Between for OtherSaver<'_> {
     }
 }
 
-/// Saves as a saver. At its end its locks are let go.
+/// Saves as a saver. At its end its locks are let go, and it is wrong where a save is done whose watch wasn't told of each
+/// byte that was written.
 pub fn save_as<B: Between + Drop>(
     disk: &mut MemoryDisk,
     saver: Saver,
@@ -80,14 +82,19 @@ pub fn save_as<B: Between + Drop>(
     let Ok(bytes) = Vec::from_slice(alloc, *saved) else {
         return Ending::Refused;
     };
+    let len = bytes.len();
     let source = Bytes { bytes };
+    let counted = Counted { told: Cell::new(0) };
     let (saved, _source) = save(
         alloc,
         &mut Side::new(disk, saver, between),
         &target,
         source,
-        &Unwatched,
+        &counted,
     );
+    if saved.is_ok() && counted.told.get() != len {
+        disk.is_wrong = true;
+    }
     match saved {
         Ok(saved) => ending_of(saved.folder),
         Err(_) => Ending::Refused,
@@ -123,10 +130,14 @@ impl Source for Bytes {
     }
 }
 
-/// Nobody is told of what is written.
+/// How many bytes were told to be written.
 #[derive(Drop)]
-struct Unwatched;
+struct Counted {
+    told: Cell<usize>,
+}
 
-impl Watch for Unwatched {
-    fn wrote(&self, _bytes: &[u8]) {}
+impl Watch for Counted {
+    fn wrote(&self, bytes: &[u8]) {
+        self.told.set(self.told.get().saturating_add(bytes.len()));
+    }
 }
