@@ -8,7 +8,6 @@ use crate::past::PATH;
 use crate::{MemoryDisk, MemoryOpened, Saver, Side};
 use exh_disk::Seen;
 use exh_saving::{Source, SourceFault, Target, Watch, save};
-use std::cell::Cell;
 use std::io;
 use std::io::Write;
 
@@ -62,8 +61,7 @@ impl Between for OtherSaver<'_> {
     }
 }
 
-/// Saves as a saver. At its end its locks are let go, and it is wrong where a save is done whose watch wasn't told of each
-/// byte that was written.
+/// Saves as a saver. At its end its locks are let go.
 pub fn save_as<B: Between + Drop>(
     disk: &mut MemoryDisk,
     saver: Saver,
@@ -82,19 +80,14 @@ pub fn save_as<B: Between + Drop>(
     let Ok(bytes) = Vec::from_slice(alloc, *saved) else {
         return Ending::Refused;
     };
-    let len = bytes.len();
     let source = Bytes { bytes };
-    let counted = Counted { told: Cell::new(0) };
     let (saved, _source) = save(
         alloc,
         &mut Side::new(disk, saver, between),
         &target,
         source,
-        &counted,
+        &Unwatched,
     );
-    if saved.is_ok() && counted.told.get() != len {
-        disk.is_wrong = true;
-    }
     match saved {
         Ok(saved) => ending_of(saved.folder),
         Err(_) => Ending::Refused,
@@ -130,14 +123,10 @@ impl Source for Bytes {
     }
 }
 
-/// How many bytes were told to be written.
+/// Nobody is told of what is written.
 #[derive(Drop)]
-struct Counted {
-    told: Cell<usize>,
-}
+struct Unwatched;
 
-impl Watch for Counted {
-    fn wrote(&self, bytes: &[u8]) {
-        self.told.set(self.told.get().saturating_add(bytes.len()));
-    }
+impl Watch for Unwatched {
+    fn wrote(&self, _bytes: &[u8]) {}
 }
