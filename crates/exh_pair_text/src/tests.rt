@@ -21,16 +21,9 @@ fn written(
 }
 
 // Whether a line reads as this pair.
-fn is_pair(
-    alloc: Global,
-    format: PairFormat,
-    is_hex: bool,
-    line: &[u8],
-    key: &[u8],
-    value: &[u8],
-) -> bool {
-    match line_of(alloc, format, is_hex, line) {
-        Ok(Line::Pair { key: k, value: v }) => k.as_bytes() == key && v.as_bytes() == value,
+fn is_pair(read: Line, key: &[u8], value: &[u8]) -> bool {
+    match read {
+        Line::Pair { key: k, value: v } => k.as_bytes() == key && v.as_bytes() == value,
         _ => false,
     }
 }
@@ -43,7 +36,8 @@ fn is_again(alloc: Global, key: &[u8], value: &[u8]) -> Result<bool, AllocError>
             let Some(line) = text.as_slice().strip_suffix(b"\n") else {
                 return Ok(false);
             };
-            if line.contains(&b'\n') || !is_pair(alloc, format, is_hex, line, key, value) {
+            let read = line_of(alloc, format, is_hex, line)?;
+            if line.contains(&b'\n') || !is_pair(read, key, value) {
                 return Ok(false);
             }
         }
