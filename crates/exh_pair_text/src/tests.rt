@@ -202,11 +202,12 @@ const READ: [Written; 9] = [
 ];
 
 #[test]
-fn other_spellings_are_read(rt: HostRuntime) {
+fn other_spellings_are_read(rt: HostRuntime) -> Result<(), Fail> {
     for (format, is_hex, key, value, line) in READ {
         let read = line_of(rt.alloc(), format, is_hex, line)?;
         assert!(rt; is_pair(read, key, value));
     }
+    Ok(())
 }
 
 // A format, whether it is in hexadecimal, a line, and why it is no pair.
