@@ -1,0 +1,3 @@
+mod Takings
+mod Steps
+mod SavedPages

@@ -1,0 +1,32 @@
+-- What is saved of a block, wherever it stands and whatever the others are.
+use Rattle.std.specs.Prelude.{◌≡◌, ◌⊎◌, ℕ, List, [], map}
+use Rattle.exh_prefix.specs.Layout.{written_version}
+use Rattle.exh_keyer.specs.declared.any_keyer.AnyKeyer.{AnyKeyer}
+use Rattle.exh_keyer.specs.Pseudokey.{any_pseudokey}
+use Rattle.exh_page.specs.declared.page.Page.{Page}
+use Rattle.exh_page.specs.KeyMap.{pair_of}
+use Rattle.exh_page.specs.Page.{records_of}
+use Rattle.exh_codec.specs.Block.{IsSealed}
+use Rattle.exh_codec.specs.Cells.{Pair}
+use Rattle.exh_codec.specs.PageImage.{IsImage}
+use Rattle.exh_salvage.specs.declared.saved.Saved.{Saved}
+use Rattle.exh_salvage.specs.declared.saved.Saved.TheVariants as saved
+
+-- the block is the image of the page under one of the keyers. Each page of a file of version 1 or 3 is one of version 2
+pub record IsPageBlock (block : List ℕ) (page : Page) : Type 0 where
+  pub keyer : AnyKeyer
+  pub image : IsImage written_version (any_pseudokey keyer) page block
+
+abbrev pub IsNoPage : List ℕ → Type 0
+IsNoPage block = (page : Page) → IsPageBlock block page → ⊥
+
+-- a page's pairs, in the order of its records: a forwarding page has none
+abbrev pub pairs_of : Page → List Pair
+pairs_of page = map pair_of (records_of page)
+
+-- ---- what a block is to a salvage
+
+abbrev pub IsSavedAs : List ℕ → Saved → Type 0
+IsSavedAs block (saved.Page page) = IsPageBlock block page
+IsSavedAs block saved.Other = IsSealed block × IsNoPage block
+IsSavedAs block saved.Lost = IsSealed block → ⊥
