@@ -1,3 +1,4 @@
 mod Takings
 mod Steps
+mod Doing
 mod SavedPages

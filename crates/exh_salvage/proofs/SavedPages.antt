@@ -1,10 +1,12 @@
 -- Of the image of a page just its pairs are saved.
-use Rattle.std.proofs.Common.{◌≡◌, ℕ, zero, suc, ◌<◌, ◌≤◌, ◌⊎◌, inl, inr, Bool, true, false, cond, nat_eq, List, [], ◌∷◌, ◌++◌, Option, map, take, drop, slice_index, refl, sym, ap, ◌∙◌, subst, arith}
+use Rattle.std.proofs.Common.{◌≡◌, ℕ, ◌<◌, ◌≤◌, ◌⊎◌, inl, inr, Bool, true, false, cond, nat_eq, List, [], ◌∷◌, ◌++◌, Option, map, take, drop, slice_index, refl, sym, ap, ◌∙◌, arith}
+use Rattle.byteorder.specs.Endian.{big_number}
 use Rattle.sha2.specs.Sha256.{sha256}
+use Rattle.exh_prefix.specs.Bits.{word_bits}
 use Rattle.exh_prefix.specs.declared.version.Version.{Version as KnownVersion}
 use Rattle.exh_prefix.specs.declared.version.Version.TheVariants.{First, Second}
-use Rattle.exh_prefix.specs.Layout.{layout, written_version}
-use Rattle.exh_prefix.specs.Version.{Fits}
+use Rattle.exh_prefix.specs.Layout.{layout}
+use Rattle.exh_prefix.specs.Version.{Fits, Version}
 use Rattle.exh_keyer.specs.declared.any_keyer.AnyKeyer.{AnyKeyer}
 use Rattle.exh_keyer.specs.Pseudokey.{any_pseudokey}
 use Rattle.exh_page.specs.declared.page.Page.{Page}
@@ -13,10 +15,12 @@ use Rattle.exh_page.specs.declared.record.Record.{Record}
 use Rattle.exh_page.specs.KeyMap.{pair_of}
 use Rattle.exh_codec.specs.Cells.{Pair}
 use Rattle.exh_codec.specs.CodecLaws.{BlocksAreRead, ImagesAreSealed}
+use Rattle.exh_codec.specs.declared.block.TheConstants.{CONTENT_LEN}
+use Rattle.exh_codec.specs.declared.head.TheConstants.{HEAD_LEN}
 use Rattle.exh_codec.specs.Head.{head_bytes}
-use Rattle.exh_codec.specs.ImageTests.{count_of, record_of}
+use Rattle.exh_codec.specs.ImageTests.{count_of, low_in, prefix_len_of, record_of}
 use Rattle.exh_codec.specs.PageImage.{IsImage, content_of}
-use Rattle.exh_codec.specs.PageOf.{first_pairs, page_of}
+use Rattle.exh_codec.specs.PageOf.{first_pairs, link_of, page_of}
 use Rattle.exh_salvage.specs.SavedBlock.{IsNoPage, IsPageBlock, pairs_of}
 
 -- ---- a live page of version 1 is one of version 2
@@ -37,21 +41,22 @@ live_page Second keyer prefix right records block image = record { keyer = keyer
 -- ---- the pairs in a block are the same in each version, under any keyer
 
 pairs_in : List ℕ → List Pair
-pairs_in block = cond (nat_eq (slice_index block 0) 2) [] (first_pairs (count_of block) (drop 16 (take 4064 block)))
+pairs_in block = cond (nat_eq (slice_index block 0) 2) [] (first_pairs (count_of block) (drop HEAD_LEN (take CONTENT_LEN block)))
 
 pairs_back : (pseudo : List ℕ → ℕ) (pairs : List Pair) → map pair_of (map (record_of pseudo) pairs) ≡ pairs
 pairs_back pseudo [] = refl
 pairs_back pseudo (pair ∷ pairs) = ap (λ (more : List Pair). pair ∷ more) (pairs_back pseudo pairs)
 
-read_pairs : (version : KnownVersion) (pseudo : List ℕ → ℕ) (block : List ℕ) → pairs_of (page_of (layout version) pseudo block) ≡ pairs_in block
-unfolding page_of, pairs_in
-read_pairs version pseudo block = by (nat_eq (slice_index block 0) 2)
-  where
-    by : (b : Bool) (forward : Page) (prefix : List Bool) (right : Option ℕ) → pairs_of forward ≡ []
-        → pairs_of (cond b forward (Live prefix right (map (record_of pseudo) (first_pairs (count_of block) (drop 16 (take 4064 block))))))
-            ≡ cond b [] (first_pairs (count_of block) (drop 16 (take 4064 block)))
-    by true forward prefix right none = none
-    by false forward prefix right none = pairs_back pseudo (first_pairs (count_of block) (drop 16 (take 4064 block)))
+by_kind : (pseudo : List ℕ → ℕ) (is_forward : Bool) (low link : ℕ) (prefix : List Bool) (right : Option ℕ) (pairs : List Pair)
+    → pairs_of (cond is_forward (Forward low link) (Live prefix right (map (record_of pseudo) pairs))) ≡ cond is_forward [] pairs
+by_kind pseudo true low link prefix right pairs = refl
+by_kind pseudo false low link prefix right pairs = pairs_back pseudo pairs
+
+read_pairs : (version : Version) (pseudo : List ℕ → ℕ) (block : List ℕ) → pairs_of (page_of version pseudo block) ≡ pairs_in block
+unfolding page_of pairs_in
+read_pairs version pseudo block =
+    by_kind pseudo (nat_eq (slice_index block 0) 2) (low_in version block) (big_number 4 (drop 4 block)) (take (prefix_len_of block) (word_bits (low_in version block)))
+    (link_of (big_number 4 (drop 4 block))) (first_pairs (count_of block) (drop HEAD_LEN (take CONTENT_LEN block)))
 
 module _ (sealed : ImagesAreSealed) (read : BlocksAreRead) where
   fits : (version : KnownVersion) → Fits 8 (layout version)
@@ -60,7 +65,7 @@ module _ (sealed : ImagesAreSealed) (read : BlocksAreRead) where
 
   saved_pairs : (version : KnownVersion) (pseudo : List ℕ → ℕ) (page : Page) (block : List ℕ) → IsImage (layout version) pseudo page block → pairs_in block ≡ pairs_of page
   saved_pairs version pseudo page block image =
-      sym (read_pairs version pseudo block) ∙ ap pairs_of (read (layout version) (fits version) pseudo page block ((sealed (layout version) pseudo page block).0 image).0)
+      sym (read_pairs (layout version) pseudo block) ∙ ap pairs_of (read (layout version) (fits version) pseudo page block ((sealed (layout version) pseudo page block).0 image).0)
 
   pub same_pairs : (version : KnownVersion) (pseudo : List ℕ → ℕ) (page other : Page) (block : List ℕ) → IsImage (layout version) pseudo page block → IsPageBlock block other → pairs_of other ≡ pairs_of page
   same_pairs version pseudo page other block image saved =
@@ -69,7 +74,7 @@ module _ (sealed : ImagesAreSealed) (read : BlocksAreRead) where
 -- ---- the first byte
 
 first_is : (page : Page) → (slice_index (content_of page) 0 ≡ 1) ⊎ (slice_index (content_of page) 0 ≡ 2)
-unfolding content_of, head_bytes
+unfolding content_of head_bytes
 first_is (Live prefix right records) = inl refl
 first_is (Forward low target) = inr refl
 

@@ -1,10 +1,9 @@
 -- One block more.
-use Rattle.std.proofs.Common.{◌≡◌, ℕ, suc, ◌+◌, ◌≤◌, List, [], ◌∷◌, ◌++◌, length, take, inl, inr, refl, sym, ap, ◌∙◌, subst, append-nil, arith}
-use Rattle.std.proofs.lemmas.List.{length_push, take-append-le, length-take}
-use Rattle.exh_codec.specs.Cells.{Pair}
+use Rattle.std.proofs.Common.{◌≡◌, ℕ, zero, suc, ◌+◌, List, [], ◌∷◌, ◌++◌, take, inl, inr, refl, sym, ap, ◌∙◌, subst}
+use Rattle.std.proofs.lemmas.List.{length_push}
 use Rattle.exh_salvage.specs.declared.losses.Losses.{Losses}
 use Rattle.exh_salvage.specs.SavedBlock.{pairs_of}
-use Rattle.exh_salvage.specs.Salvage.{Counts, HandsOn, IsDoneAt, IsDoneWith, IsNoted, IsNotedUnread, IsSavedAt, Salvage, with_lost, with_pairs, with_unread}
+use Rattle.exh_salvage.specs.Salvage.{Counts, HandsOn, IsDoneAt, IsNoted, IsNotedUnread, IsSavedAt, Salvage, with_lost, with_pairs, with_unread}
 use Rattle.exh_salvage.specs.Taken.{AreTaken}
 use Rattle.exh_salvage.proofs.Takings.{taken_all}
 

@@ -1,5 +1,5 @@
 -- Pairs handed on one list after the other.
-use Rattle.std.proofs.Common.{◌≡◌, ℕ, List, [], ◌∷◌, ◌++◌, refl, subst}
+use Rattle.std.proofs.Common.{ℕ, List, [], ◌∷◌, ◌++◌, refl, subst}
 use Rattle.exh_codec.specs.Cells.{Pair}
 use Rattle.exh_salvage.specs.Taken.{AreTaken}
 

@@ -6,6 +6,8 @@ use Rattle.exh_codec.specs.Cells.{Pair}
 use Rattle.exh_salvage.specs.Blocks.{IsWhole, block_at}
 use Rattle.exh_salvage.specs.SavedBlock.{IsNoPage, IsPageBlock, pairs_of}
 use Rattle.exh_salvage.specs.Taken.{AreTaken}
+use Rattle.exh_salvage.specs.declared.saved.Saved.{Saved}
+use Rattle.exh_salvage.specs.declared.saved.Saved.TheVariants as saved
 use Rattle.exh_salvage.specs.declared.losses.Losses.{Losses}
 use Rattle.exh_salvage.specs.declared.losses.TheConstants.{SHOWN_PLACES}
 
@@ -73,6 +75,12 @@ module _ {S : Type 0} (Takes : S → List ℕ → List ℕ → S → Type 0) whe
   -- where the bytes are known
   abbrev pub IsGoneThrough : Option (List ℕ) → ℕ → S → S → Losses → Type 0
   IsGoneThrough known count old new losses = IfSome known (λ bytes. HandsOn bytes count old new losses)
+
+  -- what is done with a block by what it is
+  abbrev pub IsKept : Saved → ℕ → S → Losses → S → Losses → Type 0
+  IsKept (saved.Page page) place old before new after = AreTaken Takes old (pairs_of page) new × (after ≡ before)
+  IsKept saved.Other place old before new after = (new ≡ old) × (after ≡ before)
+  IsKept saved.Lost place old before new after = (new ≡ old) × IsNoted place before after
 
   -- what is done with a block: the pairs of a page are handed on, and one that is lost is noted
   abbrev pub IsDoneWith : List ℕ → ℕ → S → Losses → S → Losses → Type 0

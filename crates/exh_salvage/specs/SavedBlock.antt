@@ -1,5 +1,5 @@
 -- What is saved of a block, wherever it stands and whatever the others are.
-use Rattle.std.specs.Prelude.{◌≡◌, ◌⊎◌, ℕ, List, [], map}
+use Rattle.std.specs.Prelude.{⊤, ℕ, List, map}
 use Rattle.exh_prefix.specs.Layout.{written_version}
 use Rattle.exh_keyer.specs.declared.any_keyer.AnyKeyer.{AnyKeyer}
 use Rattle.exh_keyer.specs.Pseudokey.{any_pseudokey}
@@ -8,6 +8,8 @@ use Rattle.exh_page.specs.KeyMap.{pair_of}
 use Rattle.exh_page.specs.Page.{records_of}
 use Rattle.exh_codec.specs.Block.{IsSealed}
 use Rattle.exh_codec.specs.Cells.{Pair}
+use Rattle.exh_codec.specs.declared.image_fault.ImageFault.{ImageFault}
+use Rattle.exh_codec.specs.declared.image_fault.ImageFault.TheVariants.{Memory}
 use Rattle.exh_codec.specs.PageImage.{IsImage}
 use Rattle.exh_salvage.specs.declared.saved.Saved.{Saved}
 use Rattle.exh_salvage.specs.declared.saved.Saved.TheVariants as saved
@@ -30,3 +32,8 @@ abbrev pub IsSavedAs : List ℕ → Saved → Type 0
 IsSavedAs block (saved.Page page) = IsPageBlock block page
 IsSavedAs block saved.Other = IsSealed block × IsNoPage block
 IsSavedAs block saved.Lost = IsSealed block → ⊥
+
+-- the fault is that of a block, and not want of memory
+abbrev pub IsOfBlock : ImageFault → Type 0
+IsOfBlock Memory = ⊥
+IsOfBlock fault = ⊤

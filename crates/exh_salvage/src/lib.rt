@@ -15,3 +15,5 @@ mod read_blocks;
 mod salvaging;
 mod saved;
 mod take_pairs;
+#[cfg(test)]
+mod tests;

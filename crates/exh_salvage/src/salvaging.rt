@@ -1,6 +1,6 @@
 //! The blocks of a file, gone through one after the other.
 ghost use Rattle.std.specs.Prelude.{◌≡◌, ◌<◌, ◌-◌, ◌^◌, ◌+◌, ◌≤◌, IfOk, OnOk};
-ghost use Rattle.exh_salvage.specs.Salvage.{IsGoneThrough, IsNextSaved};
+ghost use Rattle.exh_salvage.specs.Salvage.{IsDoneWith, IsGoneThrough, IsKept, IsNextSaved};
 
 use crate::pages::take_page;
 use crate::{Losses, ReadBlocks, Saved, TakePairs, saved_of};
@@ -42,12 +42,48 @@ fn salvage_next<B: ReadBlocks, T: TakePairs>(
     ensures next { OnOk result (IsNextSaved T.takes (B.known blocks.old) place taker.old losses.old taker.new losses.new) }
 {
     let mut block = [0; BLOCK_LEN];
-    if blocks.read(place, &mut block).is_err() {
-        losses.note_unread(place);
-        return Ok(());
+    match blocks.read(place, &mut block) {
+        Ok(()) => keep(alloc, &block, place, taker, losses),
+        Err(_) => {
+            losses.note_unread(place);
+            Ok(())
+        }
     }
-    match saved_of(alloc, &block)? {
-        Saved::Page(page) => take_page(&page, taker),
+}
+
+// The same of a block that was read.
+fn keep<T: TakePairs>(
+    alloc: Global,
+    block: &[u8; BLOCK_LEN],
+    place: u32,
+    taker: &mut T,
+    losses: &mut Losses,
+) -> Result<(), AllocError>
+    requires { losses.old.count < 2 ^ 32 - 1 }
+    ensures more { losses.old.count ≤ losses.new.count }
+    ensures few { losses.new.count ≤ losses.old.count + 1 }
+    ensures unread { losses.new.unread ≡ losses.old.unread }
+    ensures done { OnOk result (IsDoneWith T.takes block.now place taker.old losses.old taker.new losses.new) }
+{
+    let saved = saved_of(alloc, block)?;
+    keep_saved(&saved, place, taker, losses)
+}
+
+// Hands the pairs of a page on, or notes a block that is lost.
+fn keep_saved<T: TakePairs>(
+    saved: &Saved,
+    place: u32,
+    taker: &mut T,
+    losses: &mut Losses,
+) -> Result<(), AllocError>
+    requires { losses.old.count < 2 ^ 32 - 1 }
+    ensures more { losses.old.count ≤ losses.new.count }
+    ensures few { losses.new.count ≤ losses.old.count + 1 }
+    ensures unread { losses.new.unread ≡ losses.old.unread }
+    ensures kept { OnOk result (IsKept T.takes saved.now place taker.old losses.old taker.new losses.new) }
+{
+    match saved {
+        Saved::Page(page) => take_page(page, taker),
         Saved::Other => Ok(()),
         Saved::Lost => {
             losses.note(place);

@@ -1,11 +1,11 @@
 //! What is saved of one block.
-ghost use Rattle.std.specs.Prelude.{◌≡◌, IfOk, IfSome, IfNone};
+ghost use Rattle.std.specs.Prelude.{◌≡◌, None, IfOk, IfSome, IfNone};
 ghost use Rattle.exh_prefix.specs.Layout.{written_version};
 ghost use Rattle.exh_keyer.specs.Pseudokey.{any_pseudokey};
 ghost use Rattle.exh_page.specs.declared.page.Page.{Page as PageType};
 ghost use Rattle.exh_codec.specs.Block.{IsSealed};
 ghost use Rattle.exh_codec.specs.PageImage.{IsImage};
-ghost use Rattle.exh_salvage.specs.SavedBlock.{IsSavedAs};
+ghost use Rattle.exh_salvage.specs.SavedBlock.{IsOfBlock, IsSavedAs};
 
 use exh_codec::{BLOCK_LEN, ImageFault, decode_content, images_are_sealed, is_sealed};
 use exh_keyer::AnyKeyer;
@@ -54,7 +54,21 @@ fn page_under(
     images_are_sealed();
     match decode_content(alloc, WRITTEN, &keyer, block) {
         Ok(page) => Ok(Some(page)),
-        Err(ImageFault::Memory) => Err(AllocError),
-        Err(_) => Ok(None),
+        Err(fault) => none_by(fault),
+    }
+}
+
+// None by a fault of the block.
+fn none_by(fault: ImageFault) -> Result<Option<Page>, AllocError>
+    ensures { IfOk result (λ found. (found ≡ None) × IsOfBlock fault) }
+{
+    match fault {
+        ImageFault::Memory => Err(AllocError),
+        ImageFault::Kind
+        | ImageFault::Length
+        | ImageFault::Order
+        | ImageFault::Padding
+        | ImageFault::Digest
+        | ImageFault::Prefix => Ok(None),
     }
 }

@@ -20,6 +20,8 @@ impl TakePairs for Vec<(Key, Value)> {
     ghost takes = { λ old key value new. new.items ≡ old.items ++ (key, value) ∷ [] };
 
     fn take(&mut self, key: &Key, value: &Value) -> Result<(), AllocError> {
-        self.push((*key, *value))
+        self.reserve(1)?;
+        self.push_reserved((*key, *value));
+        Ok(())
     }
 }

@@ -17,6 +17,6 @@ loop-item-preserved g c =
     let takes = g.T.TakePairs.takes in
     record {
       all = next_all c.loop-item.yielded c.next.new.self item was.all c.in-Some.ensures.steps;
-      taken = subst (λ (pairs : List Pair). AreTaken takes c.args.taker.now pairs c.take.new.taker) (sym (map_push pair_of c.loop-item.yielded item))
-          (taken_more takes c.args.taker.now c.loop-item.taker c.take.new.taker (map pair_of c.loop-item.yielded) (pair_of item) was.taken c.in_ok-take.ensures);
+      taken = subst (λ (pairs : List Pair). AreTaken takes c.args.taker.now pairs c.take.new.self) (sym (map_push pair_of c.loop-item.yielded item))
+          (taken_more takes c.args.taker.now c.loop-item.taker c.take.new.self (map pair_of c.loop-item.yielded) (pair_of item) was.taken c.in_ok-take.ensures);
     }
