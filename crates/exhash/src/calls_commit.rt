@@ -1,7 +1,9 @@
 //! Commits of calls over any disk.
-ghost use Rattle.std.specs.Prelude.{◌≡◌, ℕ, List, IfOk, IsTrue};
+ghost use Rattle.std.specs.Prelude.{◌≡◌, ℕ, List, IfOk, IsTrue, OnOk};
 ghost use Rattle.sqlite_disk.specs.Disk.{Only};
 ghost use Rattle.sqlite_wal.specs.Files.{seen_image};
+ghost use Rattle.sqlite_wal.specs.Reads.{AreClean};
+ghost use Rattle.exh_paged.specs.OwnLog.{HasStamp};
 ghost use Rattle.exh_batch.specs.Batch.{map_after_all};
 ghost use Rattle.exh_commit.specs.FilePages.{Leaves, LeavesAlone, StandsFor};
 ghost use Rattle.exh_keyer.specs.Pseudokey.{any_pseudokey};
@@ -48,6 +50,8 @@ pub fn commit_calls<D: Truthful + Drop>(
     // The file alone, without its log, has these and the stamp that is answered.
     ensures ok { IfOk result.0 (λ now. (settings : FileSettings AnyKeyer) (was : KeyMap) (old : List ℕ) → StandsFor (seen_image D.Disk files.log files.db) old → IsFileOf settings was old
         → LeavesAlone D.Disk (result.1.log, result.1.db) (IsCommittedAs D.Truthful.is_truthful (map_after_all settings.cap (any_pseudokey settings.keyer) was calls.now) now)) }
+    // It had the stamp before, unless a wrong answer of the disk was taken as true.
+    ensures opened { OnOk result.0 (AreClean D.Disk result.1.log result.1.db → (old : List ℕ) → StandsFor (seen_image D.Disk files.log files.db) old → HasStamp before old) }
 {
     let (answered, files) = answer_over(alloc, files, options, before, calls, stamp);
     match answered {

@@ -2,6 +2,8 @@
 ghost use Rattle.std.specs.Prelude.{◌≡◌, ℕ, List, IfOk, IsTrue, OnOk};
 ghost use Rattle.sqlite_disk.specs.Disk.{Only};
 ghost use Rattle.sqlite_wal.specs.Files.{seen_image};
+ghost use Rattle.sqlite_wal.specs.Reads.{AreClean};
+ghost use Rattle.exh_paged.specs.OwnLog.{HasStamp};
 ghost use Rattle.exh_commit.specs.FilePages.{Leaves, LeavesAlone, StandsFor};
 ghost use Rattle.exh_file.specs.FileChange.{HasMap};
 ghost use Rattle.exh_file.specs.Opened.{settings_in};
@@ -49,7 +51,8 @@ pub fn commit_files<D: Truthful + Drop, P: Pages + Drop>(
     // The file alone, without its log, has the pairs of the map.
     ensures ok { OnOk result.0 ((whole : KeyMap) → HasMap map.old whole → (old : List ℕ) → StandsFor (seen_image D.Disk files.log files.db) old
         → LeavesAlone D.Disk (result.1.log, result.1.db) (IsCommitted D.Truthful.is_truthful whole)) }
-
+    // It had the stamp before, unless a wrong answer of the disk was taken as true.
+    ensures opened { OnOk result.0 (AreClean D.Disk result.1.log result.1.db → (old : List ℕ) → StandsFor (seen_image D.Disk files.log files.db) old → HasStamp stamps.before old) }
     // The map is as before.
     ensures kept { KeepsMap map.old map.new }
     ensures settings { settings_in map.new ≡ settings_in map.old }
@@ -93,6 +96,7 @@ fn save_draft<D: Truthful + Drop>(
         → Leaves D.Disk (result.1.log, result.1.db) (IsOldOrCommitted D.Truthful.is_truthful whole old) }
     ensures ok { OnOk result.0 ((whole : KeyMap) → Drafts whole draft → (old : List ℕ) → StandsFor (seen_image D.Disk files.log files.db) old
         → LeavesAlone D.Disk (result.1.log, result.1.db) (IsCommitted D.Truthful.is_truthful whole)) }
+    ensures opened { OnOk result.0 (AreClean D.Disk result.1.log result.1.db → (old : List ℕ) → StandsFor (seen_image D.Disk files.log files.db) old → HasStamp stamp old) }
 {
     let (saved, files) = save_files(alloc, files, options, stamp, draft);
     match saved {

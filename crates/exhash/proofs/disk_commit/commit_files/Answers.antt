@@ -16,3 +16,6 @@ returns-in-Ok-clause-crash g c whole has old stands = c.save_draft.ensures.crash
 pub returns-in-Err-clause-crash : goal.returns-in-Err-clause-crash
 returns-in-Err-clause-crash g c whole has old stands =
     leaves_untouched g.D.Disk c.args.files.log c.args.files.db g.D.Truthful.is_truthful whole old c.requires.log_synced c.requires.db_synced stands
+
+pub returns-in-Ok-clause-opened : goal.returns-in-Ok-clause-opened
+returns-in-Ok-clause-opened g c = c.save_draft.ensures.opened
