@@ -17,7 +17,7 @@ use Rattle.exh_file.specs.Placing.{IsPlacedSaving, placed_file, tables_of_all}
 use Rattle.exh_file.specs.declared.placing.Form.{Form}
 use Rattle.exh_file.specs.declared.placing.Placing.{Placing}
 use Rattle.exh_file.specs.declared.placing.Stamps.{Stamps}
-use Rattle.exh_paged.specs.CallChange.{HasPairs}
+use Rattle.exh_paged.specs.CallChange.{HasPairs, HasStamps}
 use Rattle.exh_paged.specs.Saving.{IsOldOrSaved, IsSavedOver}
 use Rattle.exhash.specs.Commit.{Drafts, IsCommitted, IsOldOrCommitted}
 use Rattle.exh_map.proofs.AgainLemmas.{all_pairs}
@@ -36,36 +36,49 @@ has_pairs opened are placing bytes whole has saving = record {
   is = ap (λ (wards : List (List Page)). map_of (pages_of wards)) saving.wards_are ∙ ap map_of_pairs (all_pairs opened.wards) ∙ whole_is opened are whole has;
 }
 
-pub drafts : (opened : OpenedState) (lows : List ℕ) (stamps : Stamps) (draft : DraftState) → AreWardsOf opened → IsGrown opened lows stamps draft → (whole : KeyMap) → HasMap opened whole → Drafts whole draft
+has_stamps : (opened : OpenedState) (placing : Placing) (stamps : Stamps) (bytes : List ℕ) → placing.stamps ≡ stamps → IsPlacedSaving opened placing bytes → HasStamps bytes stamps.own stamps.before
+has_stamps opened placing stamps bytes are saving = record {
+  file = placed_file opened placing;
+  tables = tables_of_all opened.wards;
+  legal = saving.legal;
+  own_is = ap (λ (s : Stamps). s.own) are;
+  before_is = ap (λ (s : Stamps). s.before) are;
+}
+
+pub drafts : (opened : OpenedState) (lows : List ℕ) (stamps : Stamps) (draft : DraftState) → AreWardsOf opened → IsGrown opened lows stamps draft → (whole : KeyMap) → HasMap opened whole → Drafts whole stamps draft
 drafts opened lows stamps draft are grown whole has bytes saving =
     let so = grown.2 in
     let own = subst (λ (wards : OpenedState). IsSaving wards draft.form bytes) so.opened_is saving in
-    has_pairs opened are so.placing bytes whole has (subst (λ (form : Form). IsSaving opened form bytes) so.form_is own)
+    let placed = subst (λ (form : Form). IsSaving opened form bytes) so.form_is own in
+    (has_pairs opened are so.placing bytes whole has placed, has_stamps opened so.placing stamps bytes so.stamps_are placed)
 
 -- ---- what is left
 
-committed : (truthful : Bool) (draft : DraftState) (whole : KeyMap) (old new : List ℕ) → Drafts whole draft → IsSavedOver truthful draft old new → IsCommitted truthful whole new
-committed truthful draft whole old new of saved truth = subst (λ (bytes : List ℕ). HasPairs bytes whole) (sym (saved.drafted truth)) (of (bytes_in draft) saved.legal)
+module _ (truthful : Bool) (draft : DraftState) (whole : KeyMap) (stamps : Stamps) (old : List ℕ) (of : Drafts whole stamps draft) where
+  committed : (new : List ℕ) → IsSavedOver truthful draft old new → IsCommitted truthful whole stamps old new
+  committed new saved truth =
+      let both = subst (λ (bytes : List ℕ). HasPairs bytes whole × HasStamps bytes stamps.own stamps.before) (sym (saved.drafted truth)) (of (bytes_in draft) saved.legal) in
+      (both.0, inr both.1)
 
-old_or_committed : (truthful : Bool) (draft : DraftState) (whole : KeyMap) (old new : List ℕ) → Drafts whole draft → IsOldOrSaved truthful draft old new → IsOldOrCommitted truthful whole old new
-old_or_committed truthful draft whole old new of (inl same) = inl same
-old_or_committed truthful draft whole old new of (inr saved) = inr (committed truthful draft whole old new of saved)
+  old_or_committed : (new : List ℕ) → IsOldOrSaved truthful draft old new → IsOldOrCommitted truthful whole stamps old new
+  old_or_committed new (inl same) = inl same
+  old_or_committed new (inr saved) = inr (committed new saved)
 
-module _ {D : Type 0} (g : Ghosts D) (files : D × D) (truthful : Bool) (draft : DraftState) (whole : KeyMap) (old : List ℕ) (of : Drafts whole draft) where
-  pub leaves_either : Leaves g files (IsOldOrSaved truthful draft old) → Leaves g files (IsOldOrCommitted truthful whole old)
-  leaves_either all left clean may =
-      let (bytes, stands, holds) = all left clean may in
-      (bytes, stands, old_or_committed truthful draft whole old bytes of holds)
+  module _ {D : Type 0} (g : Ghosts D) (files : D × D) where
+    pub leaves_either : Leaves g files (IsOldOrSaved truthful draft old) → Leaves g files (IsOldOrCommitted truthful whole stamps old)
+    leaves_either all left clean may =
+        let (bytes, stands, holds) = all left clean may in
+        (bytes, stands, old_or_committed bytes holds)
 
-  pub leaves_committed : LeavesAlone g files (IsSavedOver truthful draft old) → LeavesAlone g files (IsCommitted truthful whole)
-  leaves_committed all left clean may =
-      let (bytes, stands, holds) = all left clean may in
-      (bytes, stands, committed truthful draft whole old bytes of holds)
+    pub leaves_committed : LeavesAlone g files (IsSavedOver truthful draft old) → LeavesAlone g files (IsCommitted truthful whole stamps old)
+    leaves_committed all left clean may =
+        let (bytes, stands, holds) = all left clean may in
+        (bytes, stands, committed bytes holds)
 
 -- files that nothing was done to
-pub leaves_untouched : {D : Type 0} (g : Ghosts D) (log db : D) (truthful : Bool) (whole : KeyMap) (old : List ℕ) → Only (g.seen log) (g.may_leave log) → Only (g.seen db) (g.may_leave db) → StandsFor (seen_image g log db) old
-    → Leaves g (log, db) (IsOldOrCommitted truthful whole old)
-leaves_untouched {D} g log db truthful whole old log_synced db_synced found left clean may =
+pub leaves_untouched : {D : Type 0} (g : Ghosts D) (log db : D) (truthful : Bool) (whole : KeyMap) (stamps : Stamps) (old : List ℕ) → Only (g.seen log) (g.may_leave log) → Only (g.seen db) (g.may_leave db) → StandsFor (seen_image g log db) old
+    → Leaves g (log, db) (IsOldOrCommitted truthful whole stamps old)
+leaves_untouched {D} g log db truthful whole stamps old log_synced db_synced found left clean may =
     let of_two : List ℕ → List ℕ → Image = λ log db. record { log = log; db = db } in
     let is : left ≡ seen_image g log db = ap₂ of_two (log_synced left.log may.0) (db_synced left.db may.1) in
     (old, subst (λ (image : Image). StandsFor image old) (sym is) found, inl refl)

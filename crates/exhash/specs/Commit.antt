@@ -8,29 +8,39 @@ use Rattle.exh_format.specs.Reading.{AreBytes}
 use Rattle.exh_cells.specs.LegalPlaced.{IsLegalPlacedFile}
 use Rattle.exh_cells.specs.PlacedFile.{PlacedFile}
 use Rattle.exh_file.specs.Draft.{DraftState, IsDraftSaving}
-use Rattle.exh_paged.specs.CallChange.{HasPairs, HasState}
+use Rattle.exh_file.specs.declared.placing.Stamps.{Stamps}
+use Rattle.exh_paged.specs.CallChange.{HasPairs, HasStamps, HasState}
 use Rattle.exh_walked.specs.PlacedLaws.{map_in}
 
--- the draft's page file has these pairs
-abbrev pub Drafts : KeyMap → DraftState → Type 0
-Drafts whole draft = (bytes : List ℕ) → IsDraftSaving draft bytes → HasPairs bytes whole
+-- the draft's page file has these pairs and stamps
+abbrev pub Drafts : KeyMap → Stamps → DraftState → Type 0
+Drafts whole stamps draft = (bytes : List ℕ) → IsDraftSaving draft bytes → HasPairs bytes whole × HasStamps bytes stamps.own stamps.before
 
--- the bytes are those of a legal page file of version 3 with these settings and pairs
-pub record IsFileOf (settings : FileSettings AnyKeyer) (pairs : KeyMap) (bytes : List ℕ) : Type 0 where
+-- the bytes are those of a legal page file of version 3 with these settings, these pairs and this stamp
+pub record IsFileOf (settings : FileSettings AnyKeyer) (pairs : KeyMap) (own : ℕ) (bytes : List ℕ) : Type 0 where
   pub file : PlacedFile
   pub tables : List TableMap
   pub are_bytes : AreBytes bytes
   pub legal : IsLegalPlacedFile file tables bytes
   pub settings_are : file.header.settings ≡ settings
   pub is : map_in file ≡ pairs
+  pub stamp_is : file.header.stamp ≡ own
 
--- the bytes are a legal page file with these pairs, where the disk tells the truth
-abbrev pub IsCommitted : Bool → KeyMap → List ℕ → Type 0
-IsCommitted truthful whole new = IsTrue truthful → HasPairs new whole
+-- those of a state behind the one with a stamp
+abbrev pub stamps_behind : ℕ → ℕ → Stamps
+stamps_behind before own = record { own = own; before = before }
 
-abbrev pub IsOldOrCommitted : Bool → KeyMap → List ℕ → List ℕ → Type 0
-IsOldOrCommitted truthful whole old new = (new ≡ old) ⊎ IsCommitted truthful whole new
+-- no block changed, or a legal page file has the new stamp, and before it that of the state that was opened
+abbrev pub AreStamps : Stamps → List ℕ → List ℕ → Type 0
+AreStamps stamps old new = (new ≡ old) ⊎ HasStamps new stamps.own stamps.before
+
+-- the bytes are a legal page file with these pairs and stamps, where the disk tells the truth
+abbrev pub IsCommitted : Bool → KeyMap → Stamps → List ℕ → List ℕ → Type 0
+IsCommitted truthful whole stamps old new = IsTrue truthful → HasPairs new whole × AreStamps stamps old new
+
+abbrev pub IsOldOrCommitted : Bool → KeyMap → Stamps → List ℕ → List ℕ → Type 0
+IsOldOrCommitted truthful whole stamps old new = (new ≡ old) ⊎ IsCommitted truthful whole stamps old new
 
 -- and it is in the state of this stamp
-abbrev pub IsCommittedAs : Bool → KeyMap → ℕ → List ℕ → Type 0
-IsCommittedAs truthful whole stamp new = IsTrue truthful → HasState new whole stamp
+abbrev pub IsCommittedAs : Bool → KeyMap → Stamps → ℕ → List ℕ → List ℕ → Type 0
+IsCommittedAs truthful whole stamps now old new = IsTrue truthful → HasState new whole now × AreStamps stamps old new

@@ -1,14 +1,16 @@
 //! Commits of calls over any disk.
-ghost use Rattle.std.specs.Prelude.{◌≡◌, ℕ, List, IfOk, IsTrue};
+ghost use Rattle.std.specs.Prelude.{◌≡◌, ℕ, List, IfOk, IsTrue, OnOk};
 ghost use Rattle.sqlite_disk.specs.Disk.{Only};
 ghost use Rattle.sqlite_wal.specs.Files.{seen_image};
+ghost use Rattle.sqlite_wal.specs.Reads.{AreClean};
+ghost use Rattle.exh_paged.specs.OwnLog.{HasStamp};
 ghost use Rattle.exh_batch.specs.Batch.{map_after_all};
 ghost use Rattle.exh_commit.specs.FilePages.{Leaves, LeavesAlone, StandsFor};
 ghost use Rattle.exh_keyer.specs.Pseudokey.{any_pseudokey};
 ghost use Rattle.exh_keyer.specs.declared.any_keyer.AnyKeyer.{AnyKeyer};
 ghost use Rattle.exh_page.specs.KeyMap.{KeyMap};
 ghost use Rattle.exh_settings.specs.declared.file_settings.FileSettings.{FileSettings};
-ghost use Rattle.exhash.specs.Commit.{IsCommittedAs, IsFileOf, IsOldOrCommitted};
+ghost use Rattle.exhash.specs.Commit.{IsCommittedAs, IsFileOf, IsOldOrCommitted, stamps_behind};
 
 use exh_calls::Call;
 use exh_commit::Truthful;
@@ -41,13 +43,14 @@ pub fn commit_calls<D: Truthful + Drop>(
     requires log_synced { Only (D.Disk.seen files.log) (D.Disk.may_leave files.log) }
     requires db_synced { Only (D.Disk.seen files.db) (D.Disk.may_leave files.db) }
 
-    // However far it gets, a crash leaves the old bytes, or a page file with the pairs that the calls make of the old ones.
-    ensures crash { (settings : FileSettings AnyKeyer) (was : KeyMap) (old : List ℕ) → StandsFor (seen_image D.Disk files.log files.db) old → IsFileOf settings was old
-        → Leaves D.Disk (result.1.log, result.1.db) (IsOldOrCommitted D.Truthful.is_truthful (map_after_all settings.cap (any_pseudokey settings.keyer) was calls.now) old) }
-
+    // However far it gets, a crash leaves the old bytes, or a page file with the pairs that the calls make of these, newly stamped.
+    ensures crash { (settings : FileSettings AnyKeyer) (was : KeyMap) (own : ℕ) (old : List ℕ) → StandsFor (seen_image D.Disk files.log files.db) old → IsFileOf settings was own old
+        → Leaves D.Disk (result.1.log, result.1.db) (IsOldOrCommitted D.Truthful.is_truthful (map_after_all settings.cap (any_pseudokey settings.keyer) was calls.now) (stamps_behind own stamp) old) }
     // The file alone, without its log, has these and the stamp that is answered.
-    ensures ok { IfOk result.0 (λ now. (settings : FileSettings AnyKeyer) (was : KeyMap) (old : List ℕ) → StandsFor (seen_image D.Disk files.log files.db) old → IsFileOf settings was old
-        → LeavesAlone D.Disk (result.1.log, result.1.db) (IsCommittedAs D.Truthful.is_truthful (map_after_all settings.cap (any_pseudokey settings.keyer) was calls.now) now)) }
+    ensures ok { IfOk result.0 (λ now. (settings : FileSettings AnyKeyer) (was : KeyMap) (own : ℕ) (old : List ℕ) → StandsFor (seen_image D.Disk files.log files.db) old → IsFileOf settings was own old
+        → LeavesAlone D.Disk (result.1.log, result.1.db) (IsCommittedAs D.Truthful.is_truthful (map_after_all settings.cap (any_pseudokey settings.keyer) was calls.now) (stamps_behind own stamp) now old)) }
+    // It had the stamp before, unless a wrong answer of the disk was taken as true.
+    ensures opened { OnOk result.0 (AreClean D.Disk result.1.log result.1.db → (old : List ℕ) → StandsFor (seen_image D.Disk files.log files.db) old → HasStamp before old) }
 {
     let (answered, files) = answer_over(alloc, files, options, before, calls, stamp);
     match answered {

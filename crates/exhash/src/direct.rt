@@ -141,12 +141,8 @@ impl<'r> Direct<'r> {
         let key = key_of(key)?;
         let old = value_of(old)?;
         let new = value_of(new)?;
-        let reply = changed_at(
-            self.rt,
-            self.path,
-            &Call::Swap { key, old, new },
-            self.seconds,
-        )?;
+        let call = Call::Swap { key, old, new };
+        let reply = changed_at(self.rt, self.path, &call, self.seconds)?;
         Ok(Swap::of(reply))
     }
 }

@@ -2,9 +2,12 @@
 ghost use Rattle.std.specs.Prelude.{◌≡◌, ℕ, List, IfOk, IsTrue, OnOk};
 ghost use Rattle.sqlite_disk.specs.Disk.{Only};
 ghost use Rattle.sqlite_wal.specs.Files.{seen_image};
+ghost use Rattle.sqlite_wal.specs.Reads.{AreClean};
+ghost use Rattle.exh_paged.specs.OwnLog.{HasStamp};
 ghost use Rattle.exh_commit.specs.FilePages.{Leaves, LeavesAlone, StandsFor};
 ghost use Rattle.exh_file.specs.FileChange.{HasMap};
 ghost use Rattle.exh_file.specs.Opened.{settings_in};
+ghost use Rattle.exh_file.specs.declared.placing.Stamps.{Stamps as StampsOf};
 ghost use Rattle.exh_page.specs.KeyMap.{KeyMap};
 ghost use Rattle.exhash.specs.Commit.{Drafts, IsCommitted, IsOldOrCommitted};
 ghost use Rattle.exh_map.specs.FileMap.{KeepsMap};
@@ -42,14 +45,15 @@ pub fn commit_files<D: Truthful + Drop, P: Pages + Drop>(
     requires log_synced { Only (D.Disk.seen files.log) (D.Disk.may_leave files.log) }
     requires db_synced { Only (D.Disk.seen files.db) (D.Disk.may_leave files.db) }
 
-    // However far it gets, a crash leaves the old bytes, or a page file with the pairs of the map.
+    // However far it gets, a crash leaves the old bytes, or a page file with the pairs of the map and these stamps.
     ensures crash { (whole : KeyMap) → HasMap map.old whole → (old : List ℕ) → StandsFor (seen_image D.Disk files.log files.db) old
-        → Leaves D.Disk (result.1.log, result.1.db) (IsOldOrCommitted D.Truthful.is_truthful whole old) }
+        → Leaves D.Disk (result.1.log, result.1.db) (IsOldOrCommitted D.Truthful.is_truthful whole stamps old) }
 
-    // The file alone, without its log, has the pairs of the map.
+    // The file alone, without its log, has these.
     ensures ok { OnOk result.0 ((whole : KeyMap) → HasMap map.old whole → (old : List ℕ) → StandsFor (seen_image D.Disk files.log files.db) old
-        → LeavesAlone D.Disk (result.1.log, result.1.db) (IsCommitted D.Truthful.is_truthful whole)) }
-
+        → LeavesAlone D.Disk (result.1.log, result.1.db) (IsCommitted D.Truthful.is_truthful whole stamps old)) }
+    // It had the stamp before, unless a wrong answer of the disk was taken as true.
+    ensures opened { OnOk result.0 (AreClean D.Disk result.1.log result.1.db → (old : List ℕ) → StandsFor (seen_image D.Disk files.log files.db) old → HasStamp stamps.before old) }
     // The map is as before.
     ensures kept { KeepsMap map.old map.new }
     ensures settings { settings_in map.new ≡ settings_in map.old }
@@ -67,7 +71,7 @@ fn draft_of<P: Pages + Drop>(
     stamps: Stamps,
     map: &mut FileMap<P>,
 ) -> Result<Draft<FileStore>, StoreError>
-    ensures draft { IfOk result (λ draft. (whole : KeyMap) → HasMap map.old whole → Drafts whole draft) }
+    ensures draft { IfOk result (λ draft. (whole : KeyMap) → HasMap map.old whole → Drafts whole stamps draft) }
     ensures kept { KeepsMap map.old map.new }
     ensures settings { settings_in map.new ≡ settings_in map.old }
 {
@@ -89,10 +93,11 @@ fn save_draft<D: Truthful + Drop>(
     requires db { IsTrue (D.Disk.is_usable files.db) }
     requires log_synced { Only (D.Disk.seen files.log) (D.Disk.may_leave files.log) }
     requires db_synced { Only (D.Disk.seen files.db) (D.Disk.may_leave files.db) }
-    ensures crash { (whole : KeyMap) → Drafts whole draft → (old : List ℕ) → StandsFor (seen_image D.Disk files.log files.db) old
-        → Leaves D.Disk (result.1.log, result.1.db) (IsOldOrCommitted D.Truthful.is_truthful whole old) }
-    ensures ok { OnOk result.0 ((whole : KeyMap) → Drafts whole draft → (old : List ℕ) → StandsFor (seen_image D.Disk files.log files.db) old
-        → LeavesAlone D.Disk (result.1.log, result.1.db) (IsCommitted D.Truthful.is_truthful whole)) }
+    ensures crash { (whole : KeyMap) (stamps : StampsOf) → Drafts whole stamps draft → (old : List ℕ) → StandsFor (seen_image D.Disk files.log files.db) old
+        → Leaves D.Disk (result.1.log, result.1.db) (IsOldOrCommitted D.Truthful.is_truthful whole stamps old) }
+    ensures ok { OnOk result.0 ((whole : KeyMap) (stamps : StampsOf) → Drafts whole stamps draft → (old : List ℕ) → StandsFor (seen_image D.Disk files.log files.db) old
+        → LeavesAlone D.Disk (result.1.log, result.1.db) (IsCommitted D.Truthful.is_truthful whole stamps old)) }
+    ensures opened { OnOk result.0 (AreClean D.Disk result.1.log result.1.db → (old : List ℕ) → StandsFor (seen_image D.Disk files.log files.db) old → HasStamp stamp old) }
 {
     let (saved, files) = save_files(alloc, files, options, stamp, draft);
     match saved {

@@ -22,7 +22,7 @@ pub(crate) fn drafted(
     stamps: Stamps,
 ) -> Result<Draft<FileStore>, StoreError>
     requires { AreWardsOf wards }
-    ensures draft { IfOk result (λ draft. (whole : KeyMap) → HasMap wards whole → Drafts whole draft) }
+    ensures draft { IfOk result (λ draft. (whole : KeyMap) → HasMap wards whole → Drafts whole stamps draft) }
     ensures refused { IfErr result IsOfCause }
 {
     match Draft::grown(alloc, wards, lows, stamps) {

@@ -210,12 +210,8 @@ impl HeldFile {
         }
         // The save takes the lock of the file that it replaces.
         self.lock = None;
-        let Saved { file, folder } = save_draft(
-            rt,
-            &self.path,
-            Some(&self.seen),
-            Draft::plain(copy),
-        )?;
+        let draft = Draft::plain(copy);
+        let Saved { file, folder } = save_draft(rt, &self.path, Some(&self.seen), draft)?;
         match seen_at(rt, &self.path) {
             Ok(seen) => {
                 self.seen = seen;

@@ -1,6 +1,8 @@
-use Rattle.std.proofs.Common.{ℕ, List, Result, IfOk, subst}
+use Rattle.std.proofs.Common.{ℕ, List, Result, IfOk, OnOk, subst}
 use Rattle.sqlite_wal.specs.Files.{seen_image}
+use Rattle.sqlite_wal.specs.Reads.{AreClean}
 use Rattle.exh_commit.specs.FilePages.{LeavesAlone, StandsFor}
+use Rattle.exh_paged.specs.OwnLog.{HasStamp}
 use Rattle.exh_paged.specs.CallChange.{OfLegal}
 use Rattle.exh_paged.specs.CallsChange.{AreReplied}
 use Rattle.exh_paged.specs.declared.answered.Answered.{Answered}
@@ -9,19 +11,25 @@ use Rattle.exhash.proofs.CallsLemmas.{calls_leave, calls_leave_alone}
 use Rattle.exhash.proofs.calls_commit.commit_calls.Goals as goal
 
 pub returns-in-Ok-clause-crash : goal.returns-in-Ok-clause-crash
-returns-in-Ok-clause-crash g c settings was old stands of =
+returns-in-Ok-clause-crash g c settings was own old stands of =
     let back = c.answer_over-answered.result.1 in
-    calls_leave settings was old of c.args.calls.now g.D.Truthful.is_truthful c.args.stamp g.D.Disk (back.log, back.db) (c.answer_over-answered.ensures.crash old stands)
+    calls_leave settings was own old of c.args.calls.now g.D.Truthful.is_truthful c.args.stamp g.D.Disk (back.log, back.db) (c.answer_over-answered.ensures.crash old stands)
 
 pub returns-in-Err-clause-crash : goal.returns-in-Err-clause-crash
-returns-in-Err-clause-crash g c settings was old stands of =
+returns-in-Err-clause-crash g c settings was own old stands of =
     let back = c.answer_over-answered.result.1 in
-    calls_leave settings was old of c.args.calls.now g.D.Truthful.is_truthful c.args.stamp g.D.Disk (back.log, back.db) (c.answer_over-answered.ensures.crash old stands)
+    calls_leave settings was own old of c.args.calls.now g.D.Truthful.is_truthful c.args.stamp g.D.Disk (back.log, back.db) (c.answer_over-answered.ensures.crash old stands)
 
 pub returns-in-Ok-clause-ok : goal.returns-in-Ok-clause-ok
-returns-in-Ok-clause-ok g c settings was old stands of =
+returns-in-Ok-clause-ok g c settings was own old stands of =
     let back = c.answer_over-answered.result.1 in
     let all : (bytes : List ℕ) → StandsFor (seen_image g.D.Disk c.args.files.log c.args.files.db) bytes → OfLegal bytes (λ file. LeavesAlone g.D.Disk (back.log, back.db) (AreReplied g.D.Truthful.is_truthful file c.args.calls.now c.args.stamp c.in-Ok.answered bytes)) =
     subst (λ (said : Result Answered FilesFault). IfOk said (λ answered. (bytes : List ℕ) → StandsFor (seen_image g.D.Disk c.args.files.log c.args.files.db) bytes → OfLegal bytes (λ file. LeavesAlone g.D.Disk (back.log, back.db) (AreReplied g.D.Truthful.is_truthful file c.args.calls.now c.args.stamp answered bytes))))
     c.in-Ok.is c.answer_over-answered.ensures.ok in
-    calls_leave_alone settings was old of c.args.calls.now g.D.Truthful.is_truthful c.args.stamp g.D.Disk (back.log, back.db) c.in-Ok.answered (all old stands)
+    calls_leave_alone settings was own old of c.args.calls.now g.D.Truthful.is_truthful c.args.stamp g.D.Disk (back.log, back.db) c.in-Ok.answered (all old stands)
+
+pub returns-in-Ok-clause-opened : goal.returns-in-Ok-clause-opened
+returns-in-Ok-clause-opened g c =
+    let back = c.answer_over-answered.result.1 in
+    subst (λ (said : Result Answered FilesFault). OnOk said (AreClean g.D.Disk back.log back.db → (old : List ℕ) → StandsFor (seen_image g.D.Disk c.args.files.log c.args.files.db) old → HasStamp c.args.before old))
+    c.in-Ok.is c.answer_over-answered.ensures.opened

@@ -8,11 +8,14 @@ on_ok (Ok done) then holds = then holds
 on_ok (Err fault) then holds = tt
 
 pub returns-in-Ok-clause-ok : goal.returns-in-Ok-clause-ok
-returns-in-Ok-clause-ok g c = on_ok c.save_draft.result.0 (λ all whole has old stands. all whole (c.in-Ok.ensures.draft whole has) old stands) c.save_draft.ensures.ok
+returns-in-Ok-clause-ok g c = on_ok c.save_draft.result.0 (λ all whole has old stands. all whole c.args.stamps (c.in-Ok.ensures.draft whole has) old stands) c.save_draft.ensures.ok
 
 pub returns-in-Ok-clause-crash : goal.returns-in-Ok-clause-crash
-returns-in-Ok-clause-crash g c whole has old stands = c.save_draft.ensures.crash whole (c.in-Ok.ensures.draft whole has) old stands
+returns-in-Ok-clause-crash g c whole has old stands = c.save_draft.ensures.crash whole c.args.stamps (c.in-Ok.ensures.draft whole has) old stands
 
 pub returns-in-Err-clause-crash : goal.returns-in-Err-clause-crash
 returns-in-Err-clause-crash g c whole has old stands =
-    leaves_untouched g.D.Disk c.args.files.log c.args.files.db g.D.Truthful.is_truthful whole old c.requires.log_synced c.requires.db_synced stands
+    leaves_untouched g.D.Disk c.args.files.log c.args.files.db g.D.Truthful.is_truthful whole c.args.stamps old c.requires.log_synced c.requires.db_synced stands
+
+pub returns-in-Ok-clause-opened : goal.returns-in-Ok-clause-opened
+returns-in-Ok-clause-opened g c = c.save_draft.ensures.opened

@@ -1,25 +1,33 @@
 use Rattle.std.proofs.Common.{ℕ, List, Result, OnOk, subst}
 use Rattle.sqlite_wal.specs.Files.{seen_image}
+use Rattle.sqlite_wal.specs.Reads.{AreClean}
 use Rattle.exh_commit.specs.FilePages.{LeavesAlone, StandsFor}
+use Rattle.exh_paged.specs.OwnLog.{HasStamp}
 use Rattle.exh_paged.specs.Saving.{IsSavedOver}
 use Rattle.exh_paged.specs.declared.save_files_fault.SaveFilesFault.{SaveFilesFault}
 use Rattle.exhash.proofs.CommitLemmas.{leaves_committed, leaves_either}
 use Rattle.exhash.proofs.disk_commit.save_draft.Goals as goal
 
 pub returns-in-Ok-clause-crash : goal.returns-in-Ok-clause-crash
-returns-in-Ok-clause-crash g c whole of old stands =
+returns-in-Ok-clause-crash g c whole stamps of old stands =
     let back = c.save_files-saved.result.1 in
-    leaves_either g.D.Disk (back.log, back.db) g.D.Truthful.is_truthful c.args.draft whole old of (c.save_files-saved.ensures.crash old stands)
+    leaves_either g.D.Truthful.is_truthful c.args.draft whole stamps old of g.D.Disk (back.log, back.db) (c.save_files-saved.ensures.crash old stands)
 
 pub returns-in-Err-clause-crash : goal.returns-in-Err-clause-crash
-returns-in-Err-clause-crash g c whole of old stands =
+returns-in-Err-clause-crash g c whole stamps of old stands =
     let back = c.save_files-saved.result.1 in
-    leaves_either g.D.Disk (back.log, back.db) g.D.Truthful.is_truthful c.args.draft whole old of (c.save_files-saved.ensures.crash old stands)
+    leaves_either g.D.Truthful.is_truthful c.args.draft whole stamps old of g.D.Disk (back.log, back.db) (c.save_files-saved.ensures.crash old stands)
 
 pub returns-in-Ok-clause-ok : goal.returns-in-Ok-clause-ok
-returns-in-Ok-clause-ok g c whole of old stands =
+returns-in-Ok-clause-ok g c whole stamps of old stands =
     let back = c.save_files-saved.result.1 in
     let all : (old : List ℕ) → StandsFor (seen_image g.D.Disk c.args.files.log c.args.files.db) old → LeavesAlone g.D.Disk (back.log, back.db) (IsSavedOver g.D.Truthful.is_truthful c.args.draft old) =
     subst (λ (saved : Result (Unit {0}) SaveFilesFault). OnOk saved ((old : List ℕ) → StandsFor (seen_image g.D.Disk c.args.files.log c.args.files.db) old → LeavesAlone g.D.Disk (back.log, back.db) (IsSavedOver g.D.Truthful.is_truthful c.args.draft old)))
     c.in-Ok.is c.save_files-saved.ensures.ok in
-    leaves_committed g.D.Disk (back.log, back.db) g.D.Truthful.is_truthful c.args.draft whole old of (all old stands)
+    leaves_committed g.D.Truthful.is_truthful c.args.draft whole stamps old of g.D.Disk (back.log, back.db) (all old stands)
+
+pub returns-in-Ok-clause-opened : goal.returns-in-Ok-clause-opened
+returns-in-Ok-clause-opened g c =
+    let back = c.save_files-saved.result.1 in
+    subst (λ (saved : Result (Unit {0}) SaveFilesFault). OnOk saved (AreClean g.D.Disk back.log back.db → (old : List ℕ) → StandsFor (seen_image g.D.Disk c.args.files.log c.args.files.db) old → HasStamp c.args.stamp old))
+    c.in-Ok.is c.save_files-saved.ensures.opened
