@@ -1,4 +1,7 @@
 //! The file beside a new path, in which a copy is written before it is linked there.
+ghost use Rattle.std.specs.Prelude.{IfErr};
+ghost use Rattle.exh_map.specs.Sizes.{IsOfCause};
+ghost use Rattle.exh_backup.specs.Backup.{IsOfPlace};
 
 use exh_disk::DiskFault;
 use exh_map::StoreError;
@@ -43,7 +46,9 @@ impl Beside {
         like: &File,
         new: &str,
         seconds: u64,
-    ) -> Result<Beside, StoreError> {
+    ) -> Result<Beside, StoreError>
+        ensures { IfErr result IsOfPlace }
+    {
         let mode = like.metadata()?.mode() & PERMISSIONS;
         let path = path_beside(rt.alloc(), new)?;
         for _ in 0..TRIES {
@@ -58,7 +63,9 @@ impl Beside {
     }
 
     // The same, empty, where nothing is at the new path.
-    fn begun(self, rt: &HostRuntime, new: &str, mode: u32) -> Result<Beside, StoreError> {
+    fn begun(self, rt: &HostRuntime, new: &str, mode: u32) -> Result<Beside, StoreError>
+        ensures { IfErr result IsOfPlace }
+    {
         if !is_of_copy(&self.file)? {
             return Err(taken(rt, &self.path));
         }
@@ -79,7 +86,9 @@ impl Beside {
     /// Links the file to the new path, and takes its own name away. On a file system without links it is renamed.
     ///
     /// `Exists`: something is there. Others: it isn't there, as they say.
-    pub(crate) fn place(self, rt: &HostRuntime, new: &str) -> Result<(), StoreError> {
+    pub(crate) fn place(self, rt: &HostRuntime, new: &str) -> Result<(), StoreError>
+        ensures { IfErr result IsOfPlace }
+    {
         match self.linked(rt, new) {
             Ok(()) => {
                 self.remove(rt);
@@ -147,7 +156,9 @@ fn path_beside(alloc: Global, new: &str) -> Result<String, AllocError> {
 }
 
 // The file of a path beside, which is made where there is none.
-fn opened(rt: &HostRuntime, path: &str, mode: u32) -> Result<File, StoreError> {
+fn opened(rt: &HostRuntime, path: &str, mode: u32) -> Result<File, StoreError>
+    ensures { IfErr result IsOfCause }
+{
     let mut options = OpenOptions::new();
     options.read(true).write(true).create_new(true).mode(mode);
     match options.open(rt, path) {
@@ -158,7 +169,9 @@ fn opened(rt: &HostRuntime, path: &str, mode: u32) -> Result<File, StoreError> {
 }
 
 // The regular file that stands at a path beside.
-fn left(rt: &HostRuntime, path: &str) -> Result<File, StoreError> {
+fn left(rt: &HostRuntime, path: &str) -> Result<File, StoreError>
+    ensures { IfErr result IsOfCause }
+{
     if !fs::symlink_metadata(rt, path)?.is_file() {
         return Err(taken(rt, path));
     }
@@ -168,7 +181,9 @@ fn left(rt: &HostRuntime, path: &str) -> Result<File, StoreError> {
 }
 
 // The fault that the name beside is taken by something else, which stays.
-fn taken(rt: &HostRuntime, path: &str) -> StoreError {
+fn taken(rt: &HostRuntime, path: &str) -> StoreError
+    ensures { IsOfCause result }
+{
     match String::from_str(rt.alloc(), path) {
         Ok(name) => StoreError::from(DiskFault::NoName(name)),
         Err(_) => StoreError::Memory,

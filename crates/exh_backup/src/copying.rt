@@ -1,5 +1,7 @@
 //! Copies of page files, made beside others that change them.
-ghost use Rattle.std.specs.Prelude.{⊤};
+ghost use Rattle.std.specs.Prelude.{IfErr};
+ghost use Rattle.exh_map.specs.Sizes.{IsOfCause};
+ghost use Rattle.exh_backup.specs.Backup.{IsOfBackup, IsOfSource};
 
 use crate::BackupFault;
 use crate::beside::Beside;
@@ -21,7 +23,9 @@ use std::{fs, io};
 ///
 /// `Copy(Unsynchronized)`: it is copied, but a power failure may take the copy away. `Copy(Exists)`: something is at the new path.
 /// `Copy(Busy)`: another process is at work there. Others: as they say. Of these nothing is left at the new path.
-pub fn backup(rt: &HostRuntime, path: &str, new: &str) -> Result<(), BackupFault> {
+pub fn backup(rt: &HostRuntime, path: &str, new: &str) -> Result<(), BackupFault>
+    ensures { IfErr result IsOfBackup }
+{
     backup_within(rt, path, new, WAIT)
 }
 
@@ -31,7 +35,9 @@ pub fn backup_within(
     path: &str,
     new: &str,
     seconds: u64,
-) -> Result<(), BackupFault> {
+) -> Result<(), BackupFault>
+    ensures { IfErr result IsOfBackup }
+{
     see_free(rt, new)?;
     let source = match held_still(rt, path, seconds) {
         Ok(source) => source,
@@ -57,7 +63,9 @@ pub fn backup_within(
 }
 
 // Sees that nothing is at a new path.
-fn see_free(rt: &HostRuntime, new: &str) -> Result<(), BackupFault> {
+fn see_free(rt: &HostRuntime, new: &str) -> Result<(), BackupFault>
+    ensures { IfErr result IsOfBackup }
+{
     match fs::symlink_metadata(rt, new) {
         Ok(_) => Err(BackupFault::Copy(StoreError::Exists)),
         Err(_) => Ok(()),
@@ -76,7 +84,9 @@ struct Source {
 }
 
 // The page file of a path, from which writers are kept, unless one has the lock all the while.
-fn held_still(rt: &HostRuntime, path: &str, seconds: u64) -> Result<Source, StoreError> {
+fn held_still(rt: &HostRuntime, path: &str, seconds: u64) -> Result<Source, StoreError>
+    ensures { IfErr result IsOfSource }
+{
     let file = opened_at(rt, path)?;
     let is_still = match hold_still(rt, path, &file, seconds) {
         Ok(true) => true,
@@ -97,7 +107,9 @@ fn fill(
     source: &Source,
     copy: &File,
     seconds: u64,
-) -> Result<(), BackupFault> {
+) -> Result<(), BackupFault>
+    ensures { IfErr result IsOfBackup }
+{
     let first = if source.is_still {
         copy_rest(&source.file, copy)?
     } else {
@@ -117,7 +129,7 @@ struct Rest<'c> {
 impl Reading for Rest<'_> {
     type Found = Result<[u8; BLOCK_LEN], BackupFault>;
 
-    ghost gives = { λ _. ⊤ };
+    ghost gives = { λ found. IfErr found IsOfBackup };
 
     fn read(&mut self, file: &File) -> Result<[u8; BLOCK_LEN], BackupFault> {
         copy_rest(file, self.copy)
@@ -131,7 +143,9 @@ fn copy_state(
     path: &str,
     copy: &File,
     seconds: u64,
-) -> Result<[u8; BLOCK_LEN], BackupFault> {
+) -> Result<[u8; BLOCK_LEN], BackupFault>
+    ensures { IfErr result IsOfBackup }
+{
     match read_one_state(rt, path, &mut Rest { copy }, seconds) {
         Ok(found) => found,
         Err(refused) => Err(BackupFault::File(StoreError::from(refused))),
@@ -139,7 +153,9 @@ fn copy_state(
 }
 
 // Copies all blocks but the first of a file, and gives the first.
-fn copy_rest(file: &File, copy: &File) -> Result<[u8; BLOCK_LEN], BackupFault> {
+fn copy_rest(file: &File, copy: &File) -> Result<[u8; BLOCK_LEN], BackupFault>
+    ensures { IfErr result IsOfBackup }
+{
     let count = match block_count(file) {
         Ok(count) => count,
         Err(fault) => return Err(BackupFault::File(fault)),
@@ -155,7 +171,9 @@ fn copy_rest(file: &File, copy: &File) -> Result<[u8; BLOCK_LEN], BackupFault> {
 }
 
 // How many blocks a file has.
-fn block_count(file: &File) -> Result<u64, StoreError> {
+fn block_count(file: &File) -> Result<u64, StoreError>
+    ensures { IfErr result IsOfCause }
+{
     let length = file.metadata()?.len();
     if length % BLOCK_LEN as u64 == 0 {
         Ok(length / BLOCK_LEN as u64)
@@ -169,7 +187,9 @@ fn start_of(place: u64) -> u64 {
     place.saturating_mul(BLOCK_LEN as u64)
 }
 
-fn read_block(file: &File, place: u64) -> Result<[u8; BLOCK_LEN], BackupFault> {
+fn read_block(file: &File, place: u64) -> Result<[u8; BLOCK_LEN], BackupFault>
+    ensures { IfErr result IsOfBackup }
+{
     let mut block = [0; BLOCK_LEN];
     match file.read_exact_at(&mut block, start_of(place)) {
         Ok(()) => Ok(block),
@@ -177,14 +197,18 @@ fn read_block(file: &File, place: u64) -> Result<[u8; BLOCK_LEN], BackupFault> {
     }
 }
 
-fn write_block(copy: &File, place: u64, block: &[u8; BLOCK_LEN]) -> Result<(), BackupFault> {
+fn write_block(copy: &File, place: u64, block: &[u8; BLOCK_LEN]) -> Result<(), BackupFault>
+    ensures { IfErr result IsOfBackup }
+{
     match copy.write_all_at(block, start_of(place)) {
         Ok(()) => Ok(()),
         Err(error) => Err(BackupFault::Copy(StoreError::from(error))),
     }
 }
 
-fn synchronize(copy: &File) -> Result<(), BackupFault> {
+fn synchronize(copy: &File) -> Result<(), BackupFault>
+    ensures { IfErr result IsOfBackup }
+{
     match copy.sync_all() {
         Ok(()) => Ok(()),
         Err(error) => Err(BackupFault::Copy(StoreError::from(error))),

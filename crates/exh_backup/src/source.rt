@@ -1,6 +1,7 @@
 //! The file that a page file is read from.
 ghost use Rattle.std.specs.Prelude.{IfErr};
 ghost use Rattle.exh_map.specs.Sizes.{IsOfOpening, IsOther};
+ghost use Rattle.exh_backup.specs.Backup.{IsOfSource};
 
 use exh_codec::BLOCK_LEN;
 use exh_format::{Header, version_in};
@@ -33,7 +34,8 @@ pub fn opened_at(rt: &HostRuntime, path: &str) -> Result<File, StoreError>
 ///
 /// `NoPageFile`, `UnknownVersion`, `Damaged`, `Truncated`: as they say. `Io`: it isn't read.
 pub fn see_old_version(file: &File) -> Result<(), StoreError>
-    ensures { IfErr result IsOther }
+    ensures other { IfErr result IsOther }
+    ensures err { IfErr result IsOfSource }
 {
     let mut block = [0; BLOCK_LEN];
     match file.read_exact_at(&mut block, 0) {
@@ -51,7 +53,8 @@ pub fn see_old_version(file: &File) -> Result<(), StoreError>
 /// Why the file of a path isn't read, where this is the cause: that nothing is there, where the system found nothing; that it is
 /// no page file, where it is empty, or ends too early and doesn't begin as one.
 pub fn unread_at(rt: &HostRuntime, path: &str, cause: StoreError) -> StoreError
-    ensures { IsOther cause → IsOther result }
+    ensures other { IsOther cause → IsOther result }
+    ensures of_source { IsOfSource cause → IsOfSource result }
 {
     match cause {
         StoreError::Io(error) if error.kind() == ErrorKind::NotFound => StoreError::Absent,
@@ -67,7 +70,8 @@ pub fn unread_at(rt: &HostRuntime, path: &str, cause: StoreError) -> StoreError
 /// Why an open file isn't read, where this is the cause: that it is no page file, where it ends too early and doesn't begin as
 /// one.
 pub fn unread_file(file: &File, cause: StoreError) -> StoreError
-    ensures { IsOther cause → IsOther result }
+    ensures other { IsOther cause → IsOther result }
+    ensures of_source { IsOfSource cause → IsOfSource result }
 {
     match cause {
         StoreError::Truncated if !begins_as_page_file(file) => StoreError::NoHeader,

@@ -9,29 +9,35 @@ use crate::creation::create;
 use crate::deletion::delete;
 use crate::get::get;
 use exh_answer::Status;
-use exh_notes::ReasonWriter;
 use exh_page::{Key, Value};
 use exh_request::{Action, NewValue, PutWhen, Request};
 use exh_run::{Run, input_value};
 use exh_stream::Output;
+use exh_system::Reason;
 use exh_transfer::{compact, export, import, stats};
-use std::cell::Cell;
-use std::io;
 use std::io::Write;
 
-/// Does what a request asks for: the answer goes to standard output, and what is refused, or absent, is said on standard
-/// error. The status is that with which the program ends.
-pub fn perform(rt: &HostRuntime, request: &Request<'_>) -> Status {
-    let reason = Cell::new(None);
+/// Does what a request asks for: the answer goes to an output that holds nothing back, and what is refused, or absent, is said
+/// on standard error; where the output's writer has failed, with its reason. The status is that with which the program ends.
+pub fn perform<W: Write>(
+    rt: &HostRuntime,
+    request: &Request<'_>,
+    reason: &Reason,
+    output: &mut Output<'_, W>,
+) -> Status
+    requires open { IsFalse (writer_failed output.old) }
+    requires empty { pending output.old ≡ [] }
+    ensures same_writer { SameWriter output.old output.new }
+    ensures ends { RunEnds request.now.form request.now.action (held W.contents output.old) (held W.contents output.new) (writer_failed output.new) result }
+{
     let run = Run {
         rt,
         path: request.path,
         seconds: request.wait,
         form: request.form,
-        reason: &reason,
+        reason,
     };
-    let mut writer = ReasonWriter::new(io::writer(rt), &reason);
-    run_action(&run, &request.action, &mut Output::new(&mut writer))
+    run_action(&run, &request.action, output)
 }
 
 // Runs an action, whose answer goes to an output.

@@ -1,0 +1,2 @@
+-- why a page file isn't copied
+pub mod Backup
