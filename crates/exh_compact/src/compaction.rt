@@ -9,12 +9,18 @@ use exh_frames::FileStore;
 use exh_map::{FileMap, StoreError};
 use exh_page::Key;
 use exhash::HeldFile;
+use std::io;
 
 /// What came of making a page file anew.
 #[derive(Drop)]
 pub enum CompactOutcome {
     /// The new file is in the place of the old one.
     Done(CompactCounts),
+    /// So it is, but its folder isn't synchronized, for this cause: a power failure may take it back.
+    Unsynchronized {
+        counts: CompactCounts,
+        cause: io::Error,
+    },
     /// These keys, in the order of the pages, find no room in it. The file is as it was.
     Full(Vec<Key>),
 }
@@ -35,8 +41,7 @@ pub struct CompactCounts {
 /// recovered before. It takes memory for the file's pages, for its pairs, and for the new pages.
 ///
 /// `Settings`: those asked for are no file's. `Absent`: nothing is there, or an empty file. `Busy`: another process has the
-/// lock. `AboveLimit`: the new file would be longer than the system lets it be. `Unsynchronized`: it is saved, but a power
-/// failure may take it back. Others: nothing was changed, as they say.
+/// lock. `AboveLimit`: the new file would be longer than the system lets it be. Others: nothing was changed, as they say.
 pub fn compact(
     rt: &HostRuntime,
     path: &str,
@@ -71,8 +76,13 @@ fn replaced(
 ) -> Result<CompactOutcome, StoreError>
     ensures { IfErr result IsOfSaving }
 {
-    file.replace(rt, wards)?;
-    Ok(CompactOutcome::Done(counts))
+    match file.replace(rt, wards) {
+        Ok(()) => Ok(CompactOutcome::Done(counts)),
+        Err(StoreError::Unsynchronized(cause)) => {
+            Ok(CompactOutcome::Unsynchronized { counts, cause })
+        }
+        Err(fault) => Err(fault),
+    }
 }
 
 // How many pages wards have.

@@ -2,3 +2,4 @@
 pub mod Shape
 pub mod Stats
 pub mod Text
+pub mod Json

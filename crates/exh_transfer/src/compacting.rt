@@ -2,8 +2,8 @@
 ghost use Rattle.std.specs.Prelude.{◌≡◌, [], IfOk, IsFalse};
 ghost use Rattle.exh_stream.specs.Output.{SameWriter, held, pending, writer_failed};
 ghost use Rattle.exh_answer.specs.declared.status.Status.TheVariants.{Done};
-ghost use Rattle.exh_run.specs.Ends.{Ends, Says, change_status};
-ghost use Rattle.exh_transfer.specs.Compacts.{CompactEnds, compact_ended, compact_line, uncompacted_status};
+ghost use Rattle.exh_run.specs.Ends.{Ends, Says};
+ghost use Rattle.exh_transfer.specs.Compacts.{CompactEnds, compact_ended, compact_line};
 
 use exh_answer::Status;
 use exh_compact::{CompactCounts, CompactOptions, CompactOutcome};
@@ -16,7 +16,8 @@ use std::alloc::{AllocError, Global};
 use std::io::Write;
 
 /// Makes the page file anew with as few pages as its pairs take, of the settings that are given, and its own where none are.
-/// Where keys find no room standard error names them, and the file stays.
+/// Where keys find no room standard error names them, and the file stays. Where the file is made anew, and only its folder isn't
+/// synchronized, standard error says so.
 pub fn compact<W: Write>(run: &Run<'_>, given: &GivenSettings, output: &mut Output<'_, W>) -> Status
     requires open { IsFalse (writer_failed output.old) }
     requires empty { pending output.old ≡ [] }
@@ -45,13 +46,17 @@ fn end_compact<W: Write>(
 {
     match done {
         Ok(CompactOutcome::Done(counts)) => tell_counts(run, &counts, output),
+        Ok(CompactOutcome::Unsynchronized { counts, cause }) => {
+            tell_refused(run.rt, run.path, &StoreError::Unsynchronized(cause));
+            tell_counts(run, &counts, output)
+        }
         Ok(CompactOutcome::Full(keys)) => {
             for key in &keys {
                 tell_full(run.rt, run.path, key);
             }
             Status::Missing
         }
-        Err(fault) => refuse_compact(run, fault),
+        Err(fault) => refuse_change(run, fault),
     }
 }
 
@@ -81,18 +86,4 @@ fn counts_line(alloc: Global, counts: &CompactCounts) -> Result<Vec<u8>, AllocEr
     push_number(&mut line, counts.pages_after)?;
     push_text(&mut line, "\n")?;
     Ok(line)
-}
-
-// Says why the file isn't made anew, or that it is and its folder isn't synchronized, and gives the status with which the program
-// ends.
-fn refuse_compact(run: &Run<'_>, fault: StoreError) -> Status
-    ensures { result ≡ uncompacted_status fault }
-{
-    match fault {
-        StoreError::Unsynchronized(_) => {
-            tell_refused(run.rt, run.path, &fault);
-            Status::Done
-        }
-        fault => refuse_change(run, fault),
-    }
 }
