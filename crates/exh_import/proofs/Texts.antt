@@ -1,9 +1,9 @@
 -- The lines of a text, of which a beginning is taken, and what is done of them.
-use Rattle.std.proofs.Common.{◌≡◌, ◌≢◌, ℕ, ◌<◌, true, false, List, [], ◌∷◌, ◌++◌, length, drop, flat_map, Option, Some, None, IfSome, Result, Ok, Err, IfOk, inl, inr, refl, sym, ap, ap₂, ◌∙◌, subst, append_assoc, append-nil, arith}
+use Rattle.std.proofs.Common.{◌≡◌, ◌≢◌, ℕ, ◌+◌, ◌<◌, true, false, List, [], ◌∷◌, ◌++◌, length, drop, flat_map, Option, Some, None, IfSome, Result, Ok, Err, IfOk, inl, inr, refl, sym, ap, ap₂, ◌∙◌, subst, append_assoc, append-nil, arith}
 use Rattle.std.specs.List.{AllByRecursion}
 use Rattle.std.specs.Io.KnownBytes.{Consumes, IsAtEnd, Keeps, prepend_known}
 use Rattle.std.proofs.KnownBytes.{Consumes-kept, Consumes-nil, Consumes-trans, Consumes-whole}
-use Rattle.std.proofs.lemmas.List.{length-drop}
+use Rattle.std.proofs.lemmas.List.{length-drop, length_push}
 use Rattle.std.proofs.lemmas.List.Elements.{All-append, All-cons, All-nil}
 use Rattle.exh_stream.specs.Source.{unread}
 use Rattle.exh_text.specs.TextLines.{newline}
@@ -99,6 +99,14 @@ module _ {S L : Type 0} (gives : S → List ℕ → List ℕ → Added → S →
         given = subst (Consumes known (text_left remaining new)) (sym (whole_more amid.front new.line.items)) (Consumes-trans known (text_left remaining old) (text_left remaining new) (whole_lines amid.front) (whole_line new.line.items) amid.given given);
         takes = takes_more amid.front new.line.items start now next amid.takes takes;
       }
+      | inr last ↦ absurd (more last.2)
+    ]
+
+    -- one line more
+    pub amid_more : (old new : LineReader R) (now next : Point S L) (amid : IsAmid old now) (count : ℕ) → length amid.front ≡ count → TakesNext remaining old new → (IsOver new → ⊥) → TakesLine gives saves rests told false new.line.items now next
+        → (after : IsAmid new next) × (length after.front ≡ count + 1)
+    amid_more old new now next amid count is (one, taken) more takes = elim taken [
+      | inl given ↦ (amid_step old new now next amid (one, inl given) more takes, length_push amid.front new.line.items ∙ ap (λ (n : ℕ). n + 1) is)
       | inr last ↦ absurd (more last.2)
     ]
 
