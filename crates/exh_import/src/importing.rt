@@ -1,5 +1,5 @@
 //! The import of a text, line by line.
-ghost use Rattle.std.specs.Prelude.{◌≡◌, ◌≢◌, ◌×◌, ℕ, List, [], IfErr, IfOk, IfSome, IsFalse, IsTrue, OnOk};
+ghost use Rattle.std.specs.Prelude.{◌≡◌, ◌≢◌, ℕ, List, [], IfErr, IfOk, IfSome, IsFalse, IsTrue, OnOk};
 ghost use Rattle.exh_import.specs.Causes.{IsCause, IsNextCause};
 ghost use Rattle.exh_import.specs.Imports.{Imports, IsTextOf, TakesLine};
 ghost use Rattle.exh_import.specs.Pairs.{ArePut, pairs_put};

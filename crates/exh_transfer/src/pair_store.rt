@@ -1,4 +1,6 @@
 //! A store as an import sees it.
+ghost use Rattle.std.specs.Prelude.{◌≡◌};
+ghost use Rattle.exh_transfer.specs.Imports.{HasRefusal, IsAddedTo, IsHeldAgain, KeepsPairs};
 
 use crate::progress::Progress;
 use exh_import::{Added, ImportedStore, Refused};
@@ -56,15 +58,10 @@ impl<'a, 'r> PairStore<'a, 'r> {
         self.committed = self.committed.saturating_add(self.unsaved);
         self.unsaved = 0;
     }
-
-    ghost use Rattle.std.specs.Prelude.{◌≡◌};
-    ghost use Rattle.exh_transfer.specs.Imports.{HasRefusal};
 }
 
 // The store's one map takes the pair as the map machine says, and a commit keeps the map. Behind a rest it is what others left.
 impl ImportedStore for PairStore<'_, '_> {
-    ghost use Rattle.exh_transfer.specs.Imports.{HasRefusal, IsAddedTo, IsHeldAgain, KeepsPairs};
-
     ghost gives = { λ old key value added new. IsAddedTo old.store key value added new.store };
 
     ghost saves = { λ old new. KeepsPairs old.store new.store };
