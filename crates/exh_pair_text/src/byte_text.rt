@@ -8,9 +8,7 @@ use exh_text::push_text;
 use std::alloc::AllocError;
 
 /// Adds a byte as tab-separated text spells it.
-///
-/// An error: a growth was refused. The text has what it had in front.
-pub fn push_byte(text: &mut Vec<u8>, byte: u8) -> Result<(), AllocError>
+pub(crate) fn push_byte(text: &mut Vec<u8>, byte: u8) -> Result<(), AllocError>
     ensures ok { OnOk result (text.new.items ≡ text.old.items ++ byte_text byte) }
     ensures kept { Keeps text.old.items text.new.items }
 {

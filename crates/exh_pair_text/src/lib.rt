@@ -1,7 +1,6 @@
 //! Pairs as lines of text: how a pair is written, and what a line reads as. What is written of a pair reads as that pair.
 #![tactic(auto)]
 
-pub use byte_text::push_byte;
 pub use field::Field;
 pub use laws::{no_newline_is_in_pairs, pairs_are_read};
 pub use line::Line;

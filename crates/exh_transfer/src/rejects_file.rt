@@ -1,7 +1,8 @@
 //! The file in which lines are named that an import doesn't put in.
 
 use exh_import::Rejection;
-use exh_pair_text::push_byte;
+use exh_pair_text::{PairFormat, push_pair};
+use exh_text::{push_number, push_text};
 use exhash::StoreError;
 use std::alloc::{AllocError, Global};
 use std::fs::{File, OpenOptions};
@@ -52,18 +53,18 @@ impl<'w> RejectsFile<'w> {
     }
 }
 
-// The text that names a line: three fields with tabs between. The last spells each byte as tab-separated text does.
+// The text that names a line: three fields with tabs between, of which two are those of a pair of tab-separated text.
 fn named_line(
     alloc: Global,
     number: u64,
     cause: Rejection,
     line: &[u8],
 ) -> Result<Vec<u8>, AllocError> {
-    let mut text = format!(in alloc; "{number}\t{cause}\t")?.into_bytes();
-    for byte in line {
-        push_byte(&mut text, *byte)?;
-    }
-    text.push(b'\n')?;
+    let cause = format!(in alloc; "{cause}")?;
+    let mut text = Vec::new(alloc);
+    push_number(&mut text, number)?;
+    push_text(&mut text, "\t")?;
+    push_pair(&mut text, PairFormat::Tsv, false, cause.as_bytes(), line)?;
     Ok(text)
 }
 
