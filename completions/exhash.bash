@@ -16,7 +16,7 @@ _exhash() {
         pairs | create | compact | import)
             options='--cap --wards --keyer --help'
             [[ ${COMP_WORDS[1]} == pairs ]] || options+=' --wait'
-            [[ ${COMP_WORDS[1]} != import ]] || options+=' --format --hex --atomic --create'
+            [[ ${COMP_WORDS[1]} != import ]] || options+=' --format --hex --atomic --rejects --create'
             case $last in
                 --cap | --wards | --wait) return ;;
                 --format)

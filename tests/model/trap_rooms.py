@@ -94,12 +94,12 @@ def shared_room(program, files, owner):
 
 
 @contextlib.contextmanager
-def small_room(program, files):
-    """A folder of a small file system."""
+def small_room(program, files, size=SMALL):
+    """A folder of a small file system, of so many bytes."""
     if os.geteuid() != 0:
         raise LeftOut("the runner isn't root")
     with tempfile.TemporaryDirectory(dir=MEMORY) as folder:
-        asked("mount", "-t", "tmpfs", "-o", f"size={SMALL}", "tmpfs", folder)
+        asked("mount", "-t", "tmpfs", "-o", f"size={size}", "tmpfs", folder)
         try:
             laid(files, folder)
             yield Room(program, folder)

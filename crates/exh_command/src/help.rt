@@ -6,8 +6,8 @@ ghost use Rattle.exh_command.specs.CommandFault.{IsWrong, TellsVersion};
 use crate::fault::CliFault;
 use crate::names::{
     ATOMIC, BACKUP, BARE, CAP, CHECK, COMPACT, CONVERT, CREATE, CREATE_FLAG, DEL, DUMP, EXPORT,
-    FORMAT, FROM, GET, HELP, HEX, IMPORT, JSON, KEYER, KEYER_NAME, LOAD, MANUAL, NEW_FLAG, NUMBER,
-    PAIRS, PROGRAM, PUT, RAW, REPLACE, SERVE, STATS, STORM, SWAP, VERSION, WAIT, WARDS,
+    FILE, FORMAT, FROM, GET, HELP, HEX, IMPORT, JSON, KEYER, KEYER_NAME, LOAD, MANUAL, NEW_FLAG, NUMBER,
+    PAIRS, PROGRAM, PUT, RAW, REJECTS, REPLACE, SERVE, STATS, STORM, SWAP, VERSION, WAIT, WARDS,
 };
 use crate::parser::{
     bare_command, bare_program, check, convert, dump, flag, load, manual, option, pairs, serve,
@@ -270,8 +270,19 @@ fn import<'a>(alloc: Global) -> Result<Command<'a>, AllocError> {
     .arg(format(alloc))?
     .arg(hex(alloc))?
     .arg(flag(alloc, ATOMIC, "All pairs at once, or none"))?
+    .arg(rejects(alloc))?
     .arg(flag(alloc, CREATE_FLAG, "Makes the file where nothing is"))?;
     with_new_settings(alloc, command)?.arg(wait(alloc))
+}
+
+// The option that names a file for lines that aren't put in.
+fn rejects<'a>(alloc: Global) -> Arg<'a> {
+    option(
+        alloc,
+        REJECTS,
+        FILE,
+        "A new file for lines that aren't put in",
+    )
 }
 
 // What help tells of `export`.

@@ -123,6 +123,12 @@ pub(crate) const CREATE_FLAG: &str = "create";
 /// The flag of `import` by which all pairs are put in or none.
 pub(crate) const ATOMIC: &str = "atomic";
 
+/// The option of `import` that names a new file for lines that aren't put in.
+pub(crate) const REJECTS: &str = "rejects";
+
+/// What help calls that file.
+pub(crate) const FILE: &str = "FILE";
+
 /// The flag of `export` that leaves its first line and its last out.
 pub(crate) const BARE: &str = "bare";
 

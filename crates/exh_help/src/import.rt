@@ -5,7 +5,8 @@ pub const ABOUT: &str = "Puts the pairs of a text into a page file";
 
 /// How it is used.
 pub const USAGE: &str = "exhash import PATH [--format words|tsv|jsonl] [--hex] [--atomic]
-         [--create [--cap N] [--wards N] [--keyer K]] [--wait SECONDS] < PAIRS
+         [--rejects FILE] [--wait SECONDS]
+         [--create [--cap N] [--wards N] [--keyer K]] < PAIRS
 
 Words behind `--` are no options, as in import -- --hex.
 
@@ -17,9 +18,11 @@ Examples:
 /// What help says behind its options.
 pub const TEXT: &str = "\
 It puts the pairs of standard input into the file, one a line; a key that is
-there gets the new value. The text may have any length; the file is locked until
-its end, and saved every 65536 pairs. With --atomic all pairs are put in at
-once, or, where a line is wrong or a key finds no room, none.
+there gets the new value. The text may have any length. The file is saved every
+16384 pairs, and others may change it before the next pair; how many pairs are
+put in then is said on standard error, once a second at most. With --atomic all
+pairs are put in at once, or, where a line is wrong or a key finds no room,
+none.
 A line of the format `words` is
   KEY VALUE
 with both as `exhash pairs` prints them; of the format `tsv` both stand as they
@@ -32,17 +35,21 @@ was. Where its first line is there and its last is missing, the text was cut:
 its last line isn't put in, and with --atomic none is. Empty lines are passed
 over. A line of more than 65536 bytes ends the import.
 Each line that is wrong, and each key that finds no room, is named on standard
-error. Then one line is printed,
+error, or with --rejects in the new file FILE, with its number, what is wrong
+and its text, as three fields of the format `tsv`. Then one line is printed,
   imported N of M
-the pairs that are in the file of those that stood there. With --create a file
-is made where nothing is, as by `exhash create`.
+N being the pairs that were put in, and M the lines that aren't empty, wrong
+ones too. Where the import ends before, standard error says how many were put
+in until then. With --create a file is made where nothing is, as by `exhash
+create`.
 
 Exit status:
   0  all pairs are in the file
-  1  the file can't be read or written or isn't legal, the text is cut off, has
-     a line that is too long or can't be read, or memory ends
+  1  the file, or FILE, can't be read or written or isn't legal, the text is cut
+     off, has a line that is too long or can't be read, or memory ends
   2  the command line is wrong, or asks for help
-  3  with --atomic: a line is wrong, or a key finds no room; nothing is changed
+  3  with --atomic: a line is wrong, or a key finds no room; nothing is changed.
+     Something is at FILE already
   4  busy: another process had the file locked all the while
-  5  the pairs are in the file but for those that standard error names
+  5  the pairs are in the file but for those that standard error or FILE names
 The formats are in docs/FORMATS.md.";

@@ -15,7 +15,8 @@ pub const USAGE: &str = "exhash create PATH [--cap N] [--wards N] [--keyer K]
        exhash swap PATH KEY OLD NEW [--hex] [--wait SECONDS]
        exhash backup PATH NEW [--wait SECONDS]
        exhash import PATH [--format words|tsv|jsonl] [--hex] [--atomic]
-         [--create [--cap N] [--wards N] [--keyer K]] [--wait SECONDS] < PAIRS
+         [--rejects FILE] [--wait SECONDS]
+         [--create [--cap N] [--wards N] [--keyer K]] < PAIRS
        exhash export PATH [--format words|tsv|jsonl] [--hex] [--bare]
          [--wait SECONDS]
        exhash compact PATH [--cap N] [--wards N] [--keyer K]

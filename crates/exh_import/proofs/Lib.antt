@@ -1,3 +1,4 @@
--- of the lines of a reader, and of a text
+-- of the lines of a reader, of a text, and of what ends an import
 pub mod Texts
 pub mod Puts
+pub mod Ends

@@ -1,15 +1,16 @@
 -- The lines of a text, of which a beginning is taken, and what is done of them.
-use Rattle.std.proofs.Common.{◌≡◌, ◌≢◌, ℕ, ◌<◌, true, false, List, [], ◌∷◌, ◌++◌, length, drop, flat_map, Option, Some, None, IfSome, Result, Ok, Err, IfOk, inl, inr, refl, sym, ap, ap₂, ◌∙◌, subst, append_assoc, append-nil, arith}
+use Rattle.std.proofs.Common.{◌≡◌, ◌≢◌, ℕ, ◌+◌, ◌<◌, true, false, List, [], ◌∷◌, ◌++◌, length, drop, flat_map, Option, Some, None, IfSome, Result, Ok, Err, IfOk, inl, inr, refl, sym, ap, ap₂, ◌∙◌, subst, append_assoc, append-nil, arith}
 use Rattle.std.specs.List.{AllByRecursion}
 use Rattle.std.specs.Io.KnownBytes.{Consumes, IsAtEnd, Keeps, prepend_known}
 use Rattle.std.proofs.KnownBytes.{Consumes-kept, Consumes-nil, Consumes-trans, Consumes-whole}
-use Rattle.std.proofs.lemmas.List.{length-drop}
+use Rattle.std.proofs.lemmas.List.{length-drop, length_push}
 use Rattle.std.proofs.lemmas.List.Elements.{All-append, All-cons, All-nil}
 use Rattle.exh_stream.specs.Source.{unread}
 use Rattle.exh_text.specs.TextLines.{newline}
 use Rattle.exh_import.specs.declared.imported_store.Added.{Added}
 use Rattle.exh_import.specs.declared.line_reader.LineReader.{LineReader}
 use Rattle.exh_import.specs.declared.rejection.Rejection.{Rejection}
+use Rattle.exh_import.specs.Causes.{AreOneLines, whole_line, whole_lines}
 use Rattle.exh_import.specs.Imports.{IsTextOf, Point, TakesLine, TakesLines, TakesText}
 use Rattle.exh_import.specs.LineReader.{EndsRight, IsOneLine, IsOver, TakesNext, text_left, waiting}
 
@@ -18,15 +19,6 @@ if_ok_map (Ok made) P Q holds more = more made holds
 if_ok_map (Err fault) P Q holds more = tt
 
 -- ---- lines that end with a newline
-
-abbrev pub whole_line : List ℕ → List ℕ
-whole_line line = line ++ newline ∷ []
-
-abbrev pub whole_lines : List (List ℕ) → List ℕ
-whole_lines lines = flat_map whole_line lines
-
-abbrev pub AreOneLines : List (List ℕ) → Type 0
-AreOneLines lines = AllByRecursion IsOneLine lines
 
 -- lines behind others
 pub lines_behind : (front lines : List (List ℕ)) (rest : List ℕ) → AreOneLines front → IsTextOf lines rest → IsTextOf (front ++ lines) (whole_lines front ++ rest)
@@ -68,9 +60,9 @@ drop_some at items within none = absurd (omega (arith, length-drop at items, ap 
 
 -- ---- lines of which none is the last
 
-module _ {S L : Type 0} (gives : S → List ℕ → List ℕ → Added → S → Type 0) (saves : S → S → Type 0) (told : L → ℕ → Rejection → List ℕ → L → Type 0) where
-  pub takes_more : (lines : List (List ℕ)) (line : List ℕ) (old mid new : Point S L) → TakesLines gives saves told lines old mid → TakesLine gives saves told false line mid new → TakesLines gives saves told (lines ++ line ∷ []) old new
-  takes_more [] line old mid new is takes = (new, (subst (λ (p : Point S L). TakesLine gives saves told false line p new) is takes, refl))
+module _ {S L : Type 0} (gives : S → List ℕ → List ℕ → Added → S → Type 0) (saves rests : S → S → Type 0) (told : L → ℕ → Rejection → List ℕ → L → Type 0) where
+  pub takes_more : (lines : List (List ℕ)) (line : List ℕ) (old mid new : Point S L) → TakesLines gives saves rests told lines old mid → TakesLine gives saves rests told false line mid new → TakesLines gives saves rests told (lines ++ line ∷ []) old new
+  takes_more [] line old mid new is takes = (new, (subst (λ (p : Point S L). TakesLine gives saves rests told false line p new) is takes, refl))
   takes_more (first ∷ lines) line old mid new (next, (one, rest)) takes = (next, (one, takes_more lines line next mid new rest takes))
 
   -- ---- how far a text is imported
@@ -81,13 +73,13 @@ module _ {S L : Type 0} (gives : S → List ℕ → List ℕ → Added → S →
       pub front : List (List ℕ)
       pub one : AreOneLines front
       pub given : Consumes known (text_left remaining lines) (whole_lines front)
-      pub takes : TakesLines gives saves told front start now
+      pub takes : TakesLines gives saves rests told front start now
 
     -- all are
     pub record IsWhole (now : Point S L) : Type 0 where
       pub lines : List (List ℕ)
       pub text : IfSome known (IsTextOf lines)
-      pub takes : TakesText gives saves told lines start now
+      pub takes : TakesText gives saves rests told lines start now
 
     pub amid_start : (lines : LineReader R) → Keeps known (text_left remaining lines) → IsAmid lines start
     amid_start lines kept = record { front = []; one = tt; given = Consumes-kept known known (text_left remaining lines) [] (Consumes-nil known) kept; takes = refl }
@@ -99,7 +91,7 @@ module _ {S L : Type 0} (gives : S → List ℕ → List ℕ → Added → S →
       takes = inl (refl, refl);
     }
 
-    pub amid_step : (old new : LineReader R) (now next : Point S L) → IsAmid old now → TakesNext remaining old new → (IsOver new → ⊥) → TakesLine gives saves told false new.line.items now next → IsAmid new next
+    pub amid_step : (old new : LineReader R) (now next : Point S L) → IsAmid old now → TakesNext remaining old new → (IsOver new → ⊥) → TakesLine gives saves rests told false new.line.items now next → IsAmid new next
     amid_step old new now next amid (one, taken) more takes = elim taken [
       | inl given ↦ record {
         front = amid.front ++ new.line.items ∷ [];
@@ -110,7 +102,15 @@ module _ {S L : Type 0} (gives : S → List ℕ → List ℕ → Added → S →
       | inr last ↦ absurd (more last.2)
     ]
 
-    pub whole_step : (old new : LineReader R) (now next : Point S L) → IsAmid old now → TakesNext remaining old new → EndsRight remaining new → IsOver new → TakesLine gives saves told true new.line.items now next → IsWhole next
+    -- one line more
+    pub amid_more : (old new : LineReader R) (now next : Point S L) (amid : IsAmid old now) (count : ℕ) → length amid.front ≡ count → TakesNext remaining old new → (IsOver new → ⊥) → TakesLine gives saves rests told false new.line.items now next
+        → (after : IsAmid new next) × (length after.front ≡ count + 1)
+    amid_more old new now next amid count is (one, taken) more takes = elim taken [
+      | inl given ↦ (amid_step old new now next amid (one, inl given) more takes, length_push amid.front new.line.items ∙ ap (λ (n : ℕ). n + 1) is)
+      | inr last ↦ absurd (more last.2)
+    ]
+
+    pub whole_step : (old new : LineReader R) (now next : Point S L) → IsAmid old now → TakesNext remaining old new → EndsRight remaining new → IsOver new → TakesLine gives saves rests told true new.line.items now next → IsWhole next
     whole_step old new now next amid (one, taken) ends over takes = record {
       lines = amid.front ++ new.line.items ∷ [];
       text = elim taken [

@@ -13,7 +13,7 @@ more count = min (count + 1) (2 ^ 64 - 1)
 
 -- of a text of which no line is taken
 abbrev pub starts : ImportOptions → Taking
-starts options = record { options = options; imported = record { lines = 0; pairs = 0; rejected = 0; full = 0; is_cut_off = false; is_committed = false }; is_opened = false; unsaved = 0 }
+starts options = record { options = options; imported = record { lines = 0; pairs = 0; rejected = 0; full = 0; is_cut_off = false; is_committed = false }; is_opened = false; unsaved = 0; is_saved = false }
 
 abbrev pub line_counted : Taking → Taking
 line_counted taking = record taking { imported = record taking.imported { lines = more taking.imported.lines } }
@@ -29,7 +29,11 @@ rejected_counted taking = record taking { imported = record taking.imported { re
 
 -- what was put is committed
 abbrev pub saved : Taking → Taking
-saved taking = record taking { unsaved = 0 }
+saved taking = record taking { unsaved = 0; is_saved = true }
+
+-- the store rested if it was to
+abbrev pub rested : Taking → Taking
+rested taking = record taking { is_saved = false }
 
 -- as many pairs are put as one batch has
 abbrev pub is_due : Taking → Bool

@@ -12,7 +12,7 @@ use Rattle.exh_import.specs.declared.options.ImportOptions.{ImportOptions}
 use Rattle.exh_import.specs.declared.rejection.Rejection.{Rejection}
 use Rattle.exh_import.specs.declared.rejection.Rejection.TheVariants.{Wrong, Misplaced, Full}
 use Rattle.exh_import.specs.declared.taking.Taking.{Taking}
-use Rattle.exh_import.specs.Counting.{closed, committed, first_opening, full_counted, is_amiss, is_due, line_counted, opened, pair_counted, rejected_counted, saved, starts}
+use Rattle.exh_import.specs.Counting.{closed, committed, first_opening, full_counted, is_amiss, is_due, line_counted, opened, pair_counted, rejected_counted, rested, saved, starts}
 use Rattle.exh_import.specs.LineReader.{IsOneLine}
 
 -- The lines of a text: each stands up to a newline, but for the last, which may lack it where it has a byte.
@@ -45,8 +45,13 @@ module _ {S : Type 0} (saves : S → S → Type 0) where
   abbrev pub Finishes : Taking → S → Imported → S → Type 0
   Finishes taking store imported store' = FinishesWhere (taking.options.is_atomic && is_amiss taking.imported) taking store imported store'
 
--- a store whose puts are told so, too, and a listener
-module _ {S L : Type 0} (gives : S → List ℕ → List ℕ → Added → S → Type 0) (saves : S → S → Type 0) (told : L → ℕ → Rejection → List ℕ → L → Type 0) where
+-- a store rests before the first put behind a batch's commit
+abbrev pub RestsWhere : {S : Type 0} → (S → S → Type 0) → Bool → S → S → Type 0
+RestsWhere rests true store store' = rests store store'
+RestsWhere rests false store store' = store' ≡ store
+
+-- a store whose puts and rests are told so, too, and a listener
+module _ {S L : Type 0} (gives : S → List ℕ → List ℕ → Added → S → Type 0) (saves rests : S → S → Type 0) (told : L → ℕ → Rejection → List ℕ → L → Type 0) where
   -- the listener is told why this line isn't put
   abbrev pub Rejects : Rejection → Taking → List ℕ → L → L → Type 0
   Rejects cause taking line listener listener' = told listener taking.imported.lines cause line listener'
@@ -57,10 +62,12 @@ module _ {S L : Type 0} (gives : S → List ℕ → List ℕ → Added → S →
   Answered Put stored line old new = SavesBatch saves (pair_counted old.taking) stored new.taking new.store × (new.listener ≡ old.listener)
 
   pub record Puts (key value line : List ℕ) (old new : Point S L) : Type 0 where
+    pub before : S
+    pub rest : RestsWhere rests old.taking.is_saved old.store before
     pub answer : Added
     pub stored : S
-    pub put : gives old.store key value answer stored
-    pub answered : Answered answer stored line old new
+    pub put : gives before key value answer stored
+    pub answered : Answered answer stored line (record old { taking = rested old.taking }) new
 
   -- a line that isn't put
   pub record IsRejected (cause : Rejection) (line : List ℕ) (old new : Point S L) : Type 0 where

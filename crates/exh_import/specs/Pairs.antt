@@ -1,5 +1,5 @@
 -- The pairs of a text that are put, and the store behind them.
-use Rattle.std.specs.Prelude.{◌≡◌, ℕ, zero, suc, List, [], ◌∷◌, true, if◌then◌else◌, flat_map, is_some}
+use Rattle.std.specs.Prelude.{◌≡◌, ◌⊎◌, ℕ, zero, suc, List, [], ◌∷◌, true, if◌then◌else◌, flat_map, is_some}
 use Rattle.exh_pair_text.specs.declared.line.Line.{Line}
 use Rattle.exh_pair_text.specs.declared.line.Line.TheVariants.{Pair}
 use Rattle.exh_pair_text.specs.Reading.{line_read}
@@ -28,13 +28,13 @@ abbrev pub pairs_put : ImportOptions → List (List ℕ) → List (List ℕ × L
 pairs_put options [] = []
 pairs_put options (line ∷ lines) = if is_some (first_opening true (read_of options line)) then pairs_of options (all_but_last lines) else pairs_of options (line ∷ lines)
 
-module _ {S : Type 0} (gives : S → List ℕ → List ℕ → Added → S → Type 0) (saves : S → S → Type 0) where
-  -- so many commits, one behind the other
+module _ {S : Type 0} (gives : S → List ℕ → List ℕ → Added → S → Type 0) (saves rests : S → S → Type 0) where
+  -- so many commits and rests, one behind the other
   abbrev pub AreSaved : ℕ → S → S → Type 0
   AreSaved zero old new = new ≡ old
-  AreSaved (suc count) old new = (next : S) × (saves old next × AreSaved count next new)
+  AreSaved (suc count) old new = (next : S) × ((saves old next ⊎ rests old next) × AreSaved count next new)
 
-  -- the pairs are put in order, each with an answer of the store, with commits between
+  -- the pairs are put in order, each with an answer of the store, with commits and rests between
   abbrev pub ArePut : List (List ℕ × List ℕ) → S → S → Type 0
   ArePut [] old new = (count : ℕ) × AreSaved count old new
   ArePut (pair ∷ pairs) old new = (count : ℕ) × ((before : S) × ((answer : Added) × ((next : S) × (AreSaved count old before × (gives before pair.0 pair.1 answer next × ArePut pairs next new)))))

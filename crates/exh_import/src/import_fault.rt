@@ -10,7 +10,7 @@ use thiserror::Error;
 /// Why an import ended before the text's end. What was committed until then stays.
 #[derive(Clone, Copy, Debug, PartialEq, Eq, Error)]
 pub enum ImportFault {
-    /// The reader failed.
+    /// The reader failed, now or before.
     #[error("the reader failed")]
     Read,
     /// A growth was refused.
@@ -22,7 +22,10 @@ pub enum ImportFault {
     /// The text's opening names another format.
     #[error("the text is an export of the format {}", .found.name())]
     OtherFormat { found: PairFormat },
-    /// The store refused a put or a commit. Why is the store's own to tell.
+    /// The text goes on behind 2^64 - 1 lines.
+    #[error("it has more lines than can be counted")]
+    Endless,
+    /// The store refused a put, a commit or a rest. Why is the store's own to tell.
     #[error("the store refused")]
     Refused,
 }

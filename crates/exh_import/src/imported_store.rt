@@ -1,4 +1,4 @@
-ghost use Rattle.std.specs.Prelude.{ℕ, List, IfOk, OnOk};
+ghost use Rattle.std.specs.Prelude.{ℕ, List, IfOk, OnErr, OnOk};
 ghost use Rattle.exh_import.specs.declared.imported_store.Added.{Added as Said};
 
 use thiserror::Error;
@@ -25,11 +25,24 @@ pub trait ImportedStore {
     /// This is the store behind a commit of it.
     ghost saves: { Self → Self → Type 0 };
 
+    /// This is the store behind a rest of it, in which others may have changed it.
+    ghost rests: { Self → Self → Type 0 };
+
+    /// This is the store behind a call that it refused.
+    ghost refused: { Self → Self → Type 0 };
+
     /// Gives a key a value.
     fn put(&mut self, key: &[u8], value: &[u8]) -> Result<Added, Refused>
-        ensures { IfOk result (λ added. gives self.old key.now value.now added self.new) };
+        ensures given { IfOk result (λ added. gives self.old key.now value.now added self.new) }
+        ensures refused { OnErr result (refused self.old self.new) };
 
     /// Saves what was put since the last commit.
     fn commit(&mut self) -> Result<(), Refused>
-        ensures { OnOk result (saves self.old self.new) };
+        ensures saved { OnOk result (saves self.old self.new) }
+        ensures refused { OnErr result (refused self.old self.new) };
+
+    /// Lets others at the store for a moment. What was put since the last commit is lost.
+    fn rest(&mut self) -> Result<(), Refused>
+        ensures rested { OnOk result (rests self.old self.new) }
+        ensures refused { OnErr result (refused self.old self.new) };
 }

@@ -5,6 +5,7 @@ pub use import_fault::ImportFault;
 pub use imported::Imported;
 pub use imported_store::{Added, ImportedStore, Refused};
 pub use importing::import;
+pub use line_reader::LineReader;
 pub use options::ImportOptions;
 pub use rejection::{Rejection, Rejects};
 

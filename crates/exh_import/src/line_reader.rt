@@ -1,7 +1,8 @@
 //! The lines of a text that comes from a reader, one at a time.
-ghost use Rattle.std.specs.Prelude.{◌≡◌, ◌≢◌, ◌⊎◌, [], ◌∷◌, ◌++◌, option_to_list, IfNone, IfOk, IsFalse, IsTrue, OnOk};
+ghost use Rattle.std.specs.Prelude.{◌≡◌, ◌≢◌, ◌⊎◌, [], ◌∷◌, ◌++◌, option_to_list, IfErr, IfNone, IfOk, IsFalse, IsTrue, OnOk};
 ghost use Rattle.std.specs.Io.KnownBytes.{Keeps};
 ghost use Rattle.exh_stream.specs.Source.{ReadsFrom, SameReader};
+ghost use Rattle.exh_import.specs.Causes.{IsLineCause, IsReadCause};
 ghost use Rattle.exh_import.specs.LineReader.{AreTaken, EndsRight, IsOver, TakesNext, text_left, waiting};
 
 use crate::ImportFault;
@@ -12,10 +13,10 @@ use std::io::Read;
 /// The most bytes of a line.
 pub const LINE_LIMIT: usize = 65_536;
 
-// The lines of a reader, each up to its newline; the last may lack it. Of what the reader gives, a block and a line are
-// kept.
+/// The lines of a reader, each up to its newline; the last may lack it. Of what the reader gives, a block and a line are
+/// kept.
 #[derive(Drop)]
-pub(crate) struct LineReader<'r, R: Read> {
+pub struct LineReader<'r, R: Read> {
     source: Source<'r, R>,
     block: Vec<u8>,
     // How many bytes of the block are taken.
@@ -26,8 +27,8 @@ pub(crate) struct LineReader<'r, R: Read> {
 }
 
 impl<'r, R: Read> LineReader<'r, R> {
-    // The lines of this reader, of which nothing is read yet.
-    pub(crate) fn new(alloc: Global, reader: &'r mut R) -> LineReader<'r, R>
+    /// The lines of this reader, of which nothing is read yet.
+    pub fn new(alloc: Global, reader: &'r mut R) -> LineReader<'r, R>
         ensures reads_from { ReadsFrom result.source reader.entry }
         ensures text { text_left R.remaining result ≡ R.remaining reader.entry.now }
         ensures ends { EndsRight R.remaining result }
@@ -55,6 +56,7 @@ impl<'r, R: Read> LineReader<'r, R> {
         ensures same_reader { SameReader self.old.source self.new.source }
         ensures ends { OnOk result (EndsRight R.remaining self.new) }
         ensures next { OnOk result (TakesNext R.remaining self.old self.new) }
+        ensures cause { IfErr result (IsLineCause R.remaining number self.old self.new) }
     {
         self.line.clear();
         'bytes: for _byte in 0..LINE_LIMIT + 1 {
@@ -74,6 +76,7 @@ impl<'r, R: Read> LineReader<'r, R> {
         ensures taken { IfOk result (λ byte. AreTaken R.remaining self.old self.new (option_to_list byte)) }
         ensures end { IfOk result (λ byte. IfNone byte ((waiting self.old ≡ []) × IsOver self.new)) }
         ensures line { self.new.line ≡ self.old.line }
+        ensures cause { IfErr result (IsReadCause self.new) }
     {
         if self.is_over()? {
             return Ok(None);
@@ -92,6 +95,7 @@ impl<'r, R: Read> LineReader<'r, R> {
         ensures none { IfOk result (λ over. IsTrue over → waiting self.old ≡ []) }
         ensures stays { OnOk result (IsOver self.old → IsOver self.new) }
         ensures line { self.new.line ≡ self.old.line }
+        ensures cause { IfErr result (IsReadCause self.new) }
     {
         if self.at >= self.block.len() && !self.ended {
             self.refill()?;
@@ -118,6 +122,7 @@ impl<'r, R: Read> LineReader<'r, R> {
         ensures text { OnOk result (Keeps (text_left R.remaining self.old) (text_left R.remaining self.new)) }
         ensures some { OnOk result (IsTrue self.new.ended ⊎ (waiting self.new ≢ [])) }
         ensures line { self.new.line ≡ self.old.line }
+        ensures cause { IfErr result (IsReadCause self.new) }
     {
         let mut bytes = [0; BLOCK];
         let count = self.source.fill(&mut bytes)?;

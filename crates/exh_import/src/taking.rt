@@ -1,7 +1,9 @@
 //! What is done of each line of a text.
-ghost use Rattle.std.specs.Prelude.{◌≡◌, IfOk, OnOk};
-ghost use Rattle.exh_import.specs.Counting.{closed, first_opening, is_amiss, is_right_end, opened, rejected_counted, saved, starts, told_lines};
-ghost use Rattle.exh_import.specs.Imports.{Finishes, Puts, SavesBatch, TakesAmid, TakesLine};
+ghost use Rattle.std.specs.Prelude.{◌≡◌, ◌≢◌, ◌+◌, IfErr, IfOk, OnOk};
+ghost use Rattle.exh_import.specs.Causes.{IsStoreCause, IsTakeCause};
+ghost use Rattle.exh_import.specs.Counting.{closed, first_opening, is_amiss, is_right_end, opened, rejected_counted, rested, saved, starts, told_lines};
+ghost use Rattle.exh_import.specs.Imports.{Finishes, Puts, RestsWhere, SavesBatch, TakesAmid, TakesLine};
+ghost use Rattle.exh_import.specs.declared.import_fault.ImportFault.TheVariants.{OtherFormat};
 
 use crate::{Added, ImportFault, ImportOptions, Imported, ImportedStore, Rejection, Rejects};
 use exh_page::{Key, Value};
@@ -17,6 +19,8 @@ pub(crate) struct Taking {
     is_opened: bool,
     // Pairs that were put since the last commit.
     unsaved: u64,
+    // A batch was committed, and no put came since.
+    is_saved: bool,
 }
 
 impl Taking {
@@ -36,6 +40,7 @@ impl Taking {
             },
             is_opened: false,
             unsaved: 0,
+            is_saved: false,
         }
     }
 
@@ -48,7 +53,8 @@ impl Taking {
         store: &mut S,
         listener: &mut L,
     ) -> Result<(), ImportFault>
-        ensures { OnOk result (TakesLine S.gives S.saves L.told is_last line.now
+        ensures cause { IfErr result (IsTakeCause S.refused self.old line.now store.new) }
+        ensures taken { OnOk result (TakesLine S.gives S.saves S.rests L.told is_last line.now
             (record { taking = self.old; store = store.old; listener = listener.old })
             (record { taking = self.new; store = store.new; listener = listener.new })) }
     {
@@ -67,7 +73,8 @@ impl Taking {
 
     // Begins an export, of which the opening may be the last line.
     fn open(&mut self, found: PairFormat, is_last: bool) -> Result<(), ImportFault>
-        ensures { OnOk result ((found ≡ self.old.options.format) × (self.new ≡ opened is_last self.old)) }
+        ensures opened { OnOk result ((found ≡ self.old.options.format) × (self.new ≡ opened is_last self.old)) }
+        ensures other { IfErr result (λ fault. (fault ≡ OtherFormat found) × (found ≢ self.old.options.format)) }
     {
         if found != self.options.format {
             return Err(ImportFault::OtherFormat { found });
@@ -100,7 +107,8 @@ impl Taking {
         store: &mut S,
         listener: &mut L,
     ) -> Result<(), ImportFault>
-        ensures { OnOk result (TakesAmid S.gives S.saves L.told read.now line.now
+        ensures cause { IfErr result (IsStoreCause S.refused store.new) }
+        ensures taken { OnOk result (TakesAmid S.gives S.saves S.rests L.told read.now line.now
             (record { taking = self.old; store = store.old; listener = listener.old })
             (record { taking = self.new; store = store.new; listener = listener.new })) }
     {
@@ -113,7 +121,7 @@ impl Taking {
         Ok(())
     }
 
-    // Puts a pair, and commits where that is due.
+    // Puts a pair, behind a rest where a batch was committed, and commits where that is due.
     fn put<S: ImportedStore, L: Rejects>(
         &mut self,
         key: &Key,
@@ -122,10 +130,12 @@ impl Taking {
         store: &mut S,
         listener: &mut L,
     ) -> Result<(), ImportFault>
-        ensures { OnOk result (Puts S.gives S.saves L.told key.now value.now line.now
+        ensures cause { IfErr result (IsStoreCause S.refused store.new) }
+        ensures put { OnOk result (Puts S.gives S.saves S.rests L.told key.now value.now line.now
             (record { taking = self.old; store = store.old; listener = listener.old })
             (record { taking = self.new; store = store.new; listener = listener.new })) }
     {
+        self.rest(store)?;
         match store.put(key.as_bytes(), value.as_bytes())? {
             Added::Full => {
                 self.imported.full = self.imported.full.saturating_add(1);
@@ -140,9 +150,22 @@ impl Taking {
         }
     }
 
+    // Lets others at the store, where a batch was committed and no put came since.
+    fn rest<S: ImportedStore>(&mut self, store: &mut S) -> Result<(), ImportFault>
+        ensures cause { IfErr result (IsStoreCause S.refused store.new) }
+        ensures rested { OnOk result ((self.new ≡ rested self.old) × RestsWhere S.rests self.old.is_saved store.old store.new) }
+    {
+        if self.is_saved {
+            store.rest()?;
+        }
+        self.is_saved = false;
+        Ok(())
+    }
+
     // Commits where as many pairs are put as one batch has.
     fn save_batch<S: ImportedStore>(&mut self, store: &mut S) -> Result<(), ImportFault>
-        ensures { OnOk result (SavesBatch S.saves self.old store.old self.new store.new) }
+        ensures cause { IfErr result (IsStoreCause S.refused store.new) }
+        ensures saved { OnOk result (SavesBatch S.saves self.old store.old self.new store.new) }
     {
         if self.options.is_atomic || self.unsaved < self.options.batch {
             return Ok(());
@@ -152,10 +175,12 @@ impl Taking {
 
     // Commits.
     fn save<S: ImportedStore>(&mut self, store: &mut S) -> Result<(), ImportFault>
-        ensures { OnOk result ((self.new ≡ saved self.old) × S.saves store.old store.new) }
+        ensures cause { IfErr result (IsStoreCause S.refused store.new) }
+        ensures saved { OnOk result ((self.new ≡ saved self.old) × S.saves store.old store.new) }
     {
         store.commit()?;
         self.unsaved = 0;
+        self.is_saved = true;
         Ok(())
     }
 
@@ -173,7 +198,8 @@ impl Taking {
         &mut self,
         store: &mut S,
     ) -> Result<Imported, ImportFault>
-        ensures { IfOk result (λ imported. Finishes S.saves self.old store.old imported store.new) }
+        ensures cause { IfErr result (IsStoreCause S.refused store.new) }
+        ensures finished { IfOk result (λ imported. Finishes S.saves self.old store.old imported store.new) }
     {
         if self.options.is_atomic && self.is_amiss() {
             return Ok(self.imported);

@@ -1,6 +1,7 @@
 //! Imports into a store of a list, from a reader of a few bytes at a time.
 use crate::{
-    Added, ImportFault, ImportOptions, Imported, ImportedStore, Refused, Rejection, Rejects, import,
+    Added, ImportFault, ImportOptions, Imported, ImportedStore, LineReader, Refused, Rejection,
+    Rejects, import,
 };
 use exh_page::{Key, Value};
 use exh_pair_text::{PairFormat, WrongLine};
@@ -32,9 +33,12 @@ impl Read for FewBytes<'_> {
 struct FakeStore {
     pairs: Vec<(Key, Value)>,
     commits: Vec<usize>,
+    // How many pairs there were at each rest.
+    rests: Vec<usize>,
     // The most pairs: another put fails.
     most: usize,
     commit_fails: bool,
+    rest_fails: bool,
 }
 
 impl FakeStore {
@@ -42,8 +46,10 @@ impl FakeStore {
         FakeStore {
             pairs: Vec::new(alloc),
             commits: Vec::new(alloc),
+            rests: Vec::new(alloc),
             most: 10_000,
             commit_fails: false,
+            rest_fails: false,
         }
     }
 }
@@ -54,6 +60,10 @@ impl ImportedStore for FakeStore {
     ghost gives = { λ old key value answer new. ⊤ };
 
     ghost saves = { λ old new. ⊤ };
+
+    ghost rests = { λ old new. ⊤ };
+
+    ghost refused = { λ old new. ⊤ };
 
     fn put(&mut self, key: &[u8], value: &[u8]) -> Result<Added, Refused> {
         if self.pairs.len() >= self.most {
@@ -75,6 +85,16 @@ impl ImportedStore for FakeStore {
             return Err(Refused);
         }
         match self.commits.push(self.pairs.len()) {
+            Ok(()) => Ok(()),
+            Err(_) => Err(Refused),
+        }
+    }
+
+    fn rest(&mut self) -> Result<(), Refused> {
+        if self.rest_fails {
+            return Err(Refused);
+        }
+        match self.rests.push(self.pairs.len()) {
             Ok(()) => Ok(()),
             Err(_) => Err(Refused),
         }
@@ -125,7 +145,8 @@ fn imported(
         most,
         fails: false,
     };
-    import(alloc, &mut reader, store, options, told)
+    let mut lines = LineReader::new(alloc, &mut reader);
+    import(alloc, &mut lines, store, options, told)
 }
 
 // A text, how many pairs it puts, lines it has, lines are rejected and keys are full, whether it is cut off.
@@ -251,6 +272,7 @@ fn all_or_none_is_committed(rt: HostRuntime) -> Result<(), Fail> {
         let found = imported(rt.alloc(), text, 9, ATOMIC, &mut store, &mut told).ok();
         assert!(rt; found == Some(want), "at {lines}");
         assert!(rt; store.commits.len() == if is_committed { 1 } else { 0 });
+        assert!(rt; store.rests.is_empty());
     }
     Ok(())
 }
@@ -272,6 +294,8 @@ fn pairs_are_committed_in_batches(rt: HostRuntime) -> Result<(), Fail> {
     let found = imported(rt.alloc(), text.as_slice(), 3, WORDS, &mut store, &mut told);
     assert!(rt; found.is_ok());
     assert!(rt; store.commits.as_slice() == [2, 4, 5].as_slice());
+    // The full key is put behind the second batch's commit.
+    assert!(rt; store.rests.as_slice() == [2, 4].as_slice());
     assert!(rt; is_pair(store.pairs.first(), b"a", b"1"));
     assert!(rt; is_pair(store.pairs.last(), b"e", b"6"));
     let want = [
@@ -279,6 +303,20 @@ fn pairs_are_committed_in_batches(rt: HostRuntime) -> Result<(), Fail> {
         (5, Rejection::Full, 6),
     ];
     assert!(rt; told.lines.as_slice() == want.as_slice());
+    Ok(())
+}
+
+#[test]
+fn no_rest_comes_behind_the_last_put(rt: HostRuntime) -> Result<(), Fail> {
+    let mut store = FakeStore::new(rt.alloc());
+    let mut told = Told {
+        lines: Vec::new(rt.alloc()),
+    };
+    let text = b"a 1\nb 2\nx\nc 3\nd 4\n\ny\n";
+    let found = imported(rt.alloc(), text.as_slice(), 4, WORDS, &mut store, &mut told);
+    assert!(rt; found.is_ok());
+    assert!(rt; store.commits.as_slice() == [2, 4, 4].as_slice());
+    assert!(rt; store.rests.as_slice() == [2].as_slice());
     Ok(())
 }
 
@@ -299,7 +337,8 @@ fn faults_end_an_import(rt: HostRuntime) -> Result<(), Fail> {
         most: 5,
         fails: true,
     };
-    let found = import(rt.alloc(), &mut reader, &mut store, WORDS, &mut told);
+    let mut lines = LineReader::new(rt.alloc(), &mut reader);
+    let found = import(rt.alloc(), &mut lines, &mut store, WORDS, &mut told);
     assert!(rt;
         match found {
             Err(ImportFault::Read) => true,
@@ -323,6 +362,17 @@ fn faults_end_an_import(rt: HostRuntime) -> Result<(), Fail> {
             _ => false
         }
     );
+    store.most = 10_000;
+    store.rest_fails = true;
+    let text = b"a 1\nb 2\nc 3\n";
+    let found = imported(rt.alloc(), text.as_slice(), 9, WORDS, &mut store, &mut told);
+    assert!(rt;
+        match found {
+            Err(ImportFault::Refused) => true,
+            _ => false
+        }
+    );
+    assert!(rt; store.commits.last() == Some(&store.pairs.len()));
     store.commit_fails = true;
     let found = imported(rt.alloc(), b"".as_slice(), 9, WORDS, &mut store, &mut told);
     assert!(rt;

@@ -27,6 +27,7 @@ option_named name =
     else (if bytes_eq name (codes "format") then Some option.Format
     else (if bytes_eq name (codes "create") then Some option.Create
     else (if bytes_eq name (codes "atomic") then Some option.Atomic
+    else (if bytes_eq name (codes "rejects") then Some option.Rejects
     else (if bytes_eq name (codes "bare") then Some option.Bare
     else (if bytes_eq name (codes "json") then Some option.Json
     else (if bytes_eq name (codes "wait") then Some option.Wait
@@ -36,7 +37,7 @@ option_named name =
     else (if bytes_eq name (codes "from") then Some option.From
     else (if bytes_eq name (codes "cap") then Some option.Cap
     else (if bytes_eq name (codes "wards") then Some option.Wards
-    else (if bytes_eq name (codes "keyer") then Some option.Keyer else None)))))))))))))
+    else (if bytes_eq name (codes "keyer") then Some option.Keyer else None))))))))))))))
 
 abbrev pub is_same_option : CommandOption → CommandOption → Bool
 is_same_option option.Wait option.Wait = true
@@ -51,6 +52,7 @@ is_same_option option.Keyer option.Keyer = true
 is_same_option option.Format option.Format = true
 is_same_option option.Create option.Create = true
 is_same_option option.Atomic option.Atomic = true
+is_same_option option.Rejects option.Rejects = true
 is_same_option option.Bare option.Bare = true
 is_same_option option.Json option.Json = true
 is_same_option option other = false
@@ -69,6 +71,7 @@ has_value option.Keyer = true
 has_value option.Format = true
 has_value option.Create = false
 has_value option.Atomic = false
+has_value option.Rejects = true
 has_value option.Bare = false
 has_value option.Json = false
 
@@ -92,6 +95,7 @@ takes Import option.Format = true
 takes Import option.Hex = true
 takes Import option.Create = true
 takes Import option.Atomic = true
+takes Import option.Rejects = true
 takes Import option.Cap = true
 takes Import option.Wards = true
 takes Import option.Keyer = true

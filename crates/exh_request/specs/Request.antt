@@ -1,5 +1,5 @@
 -- The request that the words of a command line ask for.
-use Rattle.std.specs.Prelude.{◌≡◌, ◌&&◌, ◌||◌, ⊤, ℕ, Bool, true, false, not, List, [], ◌∷◌, length, map, nat_lt, Option, Some, None, Result, Ok, Err, codes, if◌then◌else◌}
+use Rattle.std.specs.Prelude.{◌≡◌, ◌&&◌, ◌||◌, ⊤, ℕ, Bool, true, false, not, List, [], ◌∷◌, length, map, nat_lt, Option, Some, None, option_map, Result, Ok, Err, codes, if◌then◌else◌}
 use Rattle.std.specs.Str.{bytes_eq, is_utf8}
 use Rattle.exh_keyer.specs.declared.any_keyer.AnyKeyer.{AnyKeyer}
 use Rattle.exh_settings.specs.declared.file_settings.FileSettings.{FileSettings}
@@ -7,6 +7,7 @@ use Rattle.exh_request.specs.declared.action.Action.{Action}
 use Rattle.exh_request.specs.declared.action.Action.TheVariants as actions
 use Rattle.exh_request.specs.declared.everyday_command.EverydayCommand.{EverydayCommand}
 use Rattle.exh_request.specs.declared.everyday_command.EverydayCommand.TheVariants.{Create, Get, Put, Del, Swap, Backup, Import, Export, Compact, Stats}
+use Rattle.exh_request.specs.declared.command_option.CommandOption.TheVariants as option
 use Rattle.exh_request.specs.declared.form.Form.{Form}
 use Rattle.exh_request.specs.declared.given_settings.GivenSettings.{GivenSettings}
 use Rattle.exh_request.specs.declared.import_words.ImportWords.{ImportWords}
@@ -23,12 +24,12 @@ use Rattle.exh_request.specs.declared.request.Request.{Request}
 use Rattle.exh_request.specs.declared.fault.RequestFault.{RequestFault}
 use Rattle.exh_request.specs.declared.fault.RequestFault.TheVariants as faults
 use Rattle.exh_request.specs.declared.wrong_request.WrongCause.{WrongCause}
-use Rattle.exh_request.specs.declared.wrong_request.WrongCause.TheVariants.{Missing, PathNotText, RawKeys, SettingsOfNone, TooMany}
+use Rattle.exh_request.specs.declared.wrong_request.WrongCause.TheVariants.{BadValue, Missing, PathNotText, RawKeys, SettingsOfNone, TooMany}
 use Rattle.exh_request.specs.Arguments.{key_asked, value_asked}
 use Rattle.exh_request.specs.Causes.{◌>>=◌}
 use Rattle.exh_request.specs.Commands.{command_named}
 use Rattle.exh_request.specs.Line.{PlacedWord, line_asked}
-use Rattle.exh_request.specs.Options.{is_given, new_settings, options_asked}
+use Rattle.exh_request.specs.Options.{is_given, new_settings, options_asked, value_given}
 
 -- ---- what is asked for, with the texts of its paths
 
@@ -44,7 +45,7 @@ pub data ActionText : Type 0 where
   Deleting : KeysText → ActionText
   Swapping : List ℕ → List ℕ → List ℕ → ActionText
   Copying : List ℕ → ActionText
-  Importing : ImportWords → ActionText
+  Importing : ImportWords → Option (List ℕ) → ActionText
   Exporting : PairFormat → Bool → ActionText
   Compacting : GivenSettings → ActionText
   Counting : Bool → ActionText
@@ -68,7 +69,7 @@ action_text (actions.Put key value when) = Putting key value when
 action_text (actions.Del which) = Deleting (keys_text which)
 action_text (actions.Swap key old new) = Swapping key old new
 action_text (actions.Backup new) = Copying new.now
-action_text (actions.Import words) = Importing words
+action_text (actions.Import words rejects) = Importing words (option_map (λ path. path.now) rejects)
 action_text (actions.Export format bare) = Exporting format bare
 action_text (actions.Compact given) = Compacting given
 action_text (actions.Stats json) = Counting json
@@ -148,14 +149,26 @@ backup_asked (new ∷ next ∷ rest) = Err TooMany
 abbrev pub made_by : Options → Option (FileSettings AnyKeyer)
 made_by options = if options.is_create then Some (new_settings options.given) else None
 
-abbrev pub import_of : Options → Result ActionText WrongCause
-import_of options =
-    if is_given options.given && not options.is_create then Err SettingsOfNone
-    else Ok (Importing (record { format = options.format; is_atomic = options.is_atomic; create = made_by options }))
+abbrev pub words_of : Options → ImportWords
+words_of options = record { format = options.format; is_atomic = options.is_atomic; create = made_by options }
 
-abbrev pub import_asked : Options → List PlacedWord → Result ActionText WrongCause
-import_asked options [] = import_of options
-import_asked options (one ∷ rest) = Err TooMany
+abbrev pub import_of : Options → Option (List ℕ) → Result ActionText WrongCause
+import_of options rejects =
+    if is_given options.given && not options.is_create then Err SettingsOfNone
+    else Ok (Importing (words_of options) rejects)
+
+abbrev pub import_asked : Options → Option (List ℕ) → List PlacedWord → Result ActionText WrongCause
+import_asked options rejects [] = import_of options rejects
+import_asked options rejects (one ∷ rest) = Err TooMany
+
+-- the path of the file that names lines
+abbrev pub rejects_by : Result (List ℕ) WrongCause → Result (Option (List ℕ)) WrongCause
+rejects_by (Ok path) = Ok (Some path)
+rejects_by (Err cause) = Err (BadValue option.Rejects)
+
+abbrev pub rejects_asked : Option (List ℕ) → Result (Option (List ℕ)) WrongCause
+rejects_asked None = Ok None
+rejects_asked (Some word) = rejects_by (path_asked at.Path word)
 
 abbrev pub export_asked : Options → List PlacedWord → Result ActionText WrongCause
 export_asked options [] = Ok (Exporting options.format options.is_bare)
@@ -169,34 +182,35 @@ abbrev pub stats_asked : Options → List PlacedWord → Result ActionText Wrong
 stats_asked options [] = Ok (Counting options.is_json)
 stats_asked options (one ∷ rest) = Err TooMany
 
--- what the command does, by the words behind its path
-abbrev pub action_asked : EverydayCommand → Options → List PlacedWord → Result ActionText WrongCause
-action_asked Create options places = create_asked options places
-action_asked Get options places = keys_asked options places >>= λ which. Ok (Getting which)
-action_asked Put options places = put_asked options places
-action_asked Del options places = keys_asked options places >>= λ which. Ok (Deleting which)
-action_asked Swap options places = swap_asked options.form.is_hex places
-action_asked Backup options places = backup_asked places
-action_asked Import options places = import_asked options places
-action_asked Export options places = export_asked options places
-action_asked Compact options places = compact_asked options places
-action_asked Stats options places = stats_asked options places
+-- what the command does, by the path of a file that names lines, and the words behind its own path
+abbrev pub action_asked : EverydayCommand → Options → Option (List ℕ) → List PlacedWord → Result ActionText WrongCause
+action_asked Create options rejects places = create_asked options places
+action_asked Get options rejects places = keys_asked options places >>= λ which. Ok (Getting which)
+action_asked Put options rejects places = put_asked options places
+action_asked Del options rejects places = keys_asked options places >>= λ which. Ok (Deleting which)
+action_asked Swap options rejects places = swap_asked options.form.is_hex places
+action_asked Backup options rejects places = backup_asked places
+action_asked Import options rejects places = import_asked options rejects places
+action_asked Export options rejects places = export_asked options places
+action_asked Compact options rejects places = compact_asked options places
+action_asked Stats options rejects places = stats_asked options places
 
 -- ---- the words behind a command
 
 -- the path is the first word at a place
-abbrev pub request_at : EverydayCommand → Options → List PlacedWord → Result RequestText WrongCause
-request_at command options [] = Err (Missing at.Path)
-request_at command options (path ∷ places) = do
+abbrev pub request_at : EverydayCommand → Options → Option (List ℕ) → List PlacedWord → Result RequestText WrongCause
+request_at command options rejects [] = Err (Missing at.Path)
+request_at command options rejects (path ∷ places) = do
   name ← path_asked at.Path path.word
-  action ← action_asked command options places
+  file ← rejects_asked rejects
+  action ← action_asked command options file places
   Ok (record { path = name; action = action; wait = options.wait; form = options.form })
 
 unfoldable pub request_behind : EverydayCommand → List (List ℕ) → Result RequestText WrongCause
 request_behind command words = do
   line ← line_asked command words
   options ← options_asked line.uses
-  request_at command options line.places
+  request_at command options (value_given option.Rejects line.uses) line.places
 
 -- `--help` or `-h` before a `--` asks for help
 abbrev pub is_help : List ℕ → Bool

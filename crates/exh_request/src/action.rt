@@ -32,7 +32,11 @@ pub enum Action<'w> {
         new: &'w str,
     },
     /// Put the pairs of standard input in.
-    Import(ImportWords),
+    Import {
+        words: ImportWords,
+        /// The path of the new file that names lines that aren't put in, by `--rejects`.
+        rejects: Option<&'w str>,
+    },
     /// Print its pairs.
     Export {
         format: PairFormat,

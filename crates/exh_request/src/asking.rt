@@ -2,7 +2,7 @@
 ghost use Rattle.std.specs.Prelude.{◌≡◌, map, option_map, IfOk, IfErr};
 ghost use Rattle.exh_request.specs.Causes.{IsCauseOf};
 ghost use Rattle.exh_request.specs.Line.{placed_word};
-ghost use Rattle.exh_request.specs.Request.{IsAnswered, action_asked, action_text, ask_for_help, backup_asked, called, compact_asked, create_asked, export_asked, help_of, import_asked, is_help, keys_asked, keys_text, new_value_asked, put_asked, put_of, request_behind, request_text, several_asked, stats_asked, swap_asked, swap_of};
+ghost use Rattle.exh_request.specs.Request.{IsAnswered, action_asked, action_text, ask_for_help, backup_asked, called, compact_asked, create_asked, export_asked, help_of, import_asked, is_help, keys_asked, keys_text, new_value_asked, put_asked, put_of, rejects_asked, request_behind, request_text, several_asked, stats_asked, swap_asked, swap_of, words_of};
 
 use crate::argument::{key_of, path_of, value_of};
 use crate::cause_or_memory::CauseOrMemory;
@@ -10,8 +10,8 @@ use crate::line::{Line, Placed};
 use crate::options::Options;
 use crate::word::is_word;
 use crate::{
-    Action, EverydayCommand, ImportWords, Keys, NewValue, Place, Request, RequestFault, WrongCause,
-    WrongRequest,
+    Action, CommandOption, EverydayCommand, ImportWords, Keys, NewValue, Place, Request,
+    RequestFault, WrongCause, WrongRequest,
 };
 use exh_page::Key;
 use std::alloc::Global;
@@ -98,7 +98,8 @@ fn request_by<'w>(
         return Err(CauseOrMemory::Wrong(WrongCause::Missing(Place::Path)));
     };
     let path = path_of(path.word, Place::Path)?;
-    let action = action_of(alloc, command, places, &options)?;
+    let rejects = rejects_of(line.value(CommandOption::Rejects))?;
+    let action = action_of(alloc, command, places, &options, rejects)?;
     Ok(Request {
         path,
         action,
@@ -107,15 +108,30 @@ fn request_by<'w>(
     })
 }
 
-// What a command does, by the words behind its path.
+// The path of the file that names lines.
+fn rejects_of(word: Option<&[u8]>) -> Result<Option<&str>, WrongCause>
+    ensures ok { IfOk result (λ path. rejects_asked (option_map (λ word. word.now) word) ≡ Ok (option_map (λ path. path.now) path)) }
+    ensures wrong { IfErr result (λ cause. rejects_asked (option_map (λ word. word.now) word) ≡ Err cause) }
+{
+    let Some(word) = word else {
+        return Ok(None);
+    };
+    match path_of(word, Place::Path) {
+        Ok(path) => Ok(Some(path)),
+        Err(_) => Err(WrongCause::BadValue(CommandOption::Rejects)),
+    }
+}
+
+// What a command does, by the path of a file that names lines, and the words behind its own path.
 fn action_of<'w>(
     alloc: Global,
     command: EverydayCommand,
     places: &[Placed<'w>],
     options: &Options,
+    rejects: Option<&'w str>,
 ) -> Result<Action<'w>, CauseOrMemory>
-    ensures ok { IfOk result (λ done. action_asked command options.now (map placed_word places.now) ≡ Ok (action_text done)) }
-    ensures wrong { IfErr result (IsCauseOf (action_asked command options.now (map placed_word places.now))) }
+    ensures ok { IfOk result (λ done. action_asked command options.now (option_map (λ path. path.now) rejects) (map placed_word places.now) ≡ Ok (action_text done)) }
+    ensures wrong { IfErr result (IsCauseOf (action_asked command options.now (option_map (λ path. path.now) rejects) (map placed_word places.now))) }
 {
     match command {
         EverydayCommand::Create => create(places, options),
@@ -124,7 +140,7 @@ fn action_of<'w>(
         EverydayCommand::Del => Ok(Action::Del(keys(alloc, places, options)?)),
         EverydayCommand::Swap => swap(alloc, places, options.form.is_hex),
         EverydayCommand::Backup => backup(places),
-        EverydayCommand::Import => import(places, options),
+        EverydayCommand::Import => import(places, options, rejects),
         EverydayCommand::Export => export(places, options),
         EverydayCommand::Compact => compact(places, options),
         EverydayCommand::Stats => stats(places, options),
@@ -155,24 +171,38 @@ fn backup<'w>(places: &[Placed<'w>]) -> Result<Action<'w>, CauseOrMemory>
 }
 
 // Settings are those of a file that is made.
-fn import<'w>(places: &[Placed<'w>], options: &Options) -> Result<Action<'w>, CauseOrMemory>
-    ensures ok { IfOk result (λ done. import_asked options.now (map placed_word places.now) ≡ Ok (action_text done)) }
-    ensures wrong { IfErr result (IsCauseOf (import_asked options.now (map placed_word places.now))) }
+fn import<'w>(
+    places: &[Placed<'w>],
+    options: &Options,
+    rejects: Option<&'w str>,
+) -> Result<Action<'w>, CauseOrMemory>
+    ensures ok { IfOk result (λ done. import_asked options.now (option_map (λ path. path.now) rejects) (map placed_word places.now) ≡ Ok (action_text done)) }
+    ensures wrong { IfErr result (IsCauseOf (import_asked options.now (option_map (λ path. path.now) rejects) (map placed_word places.now))) }
 {
     match places {
         [] if options.given.is_some() && !options.is_create => {
             Err(CauseOrMemory::Wrong(WrongCause::SettingsOfNone))
         }
-        [] => Ok(Action::Import(ImportWords {
-            format: options.format,
-            is_atomic: options.is_atomic,
-            create: if options.is_create {
-                Some(options.given.of_new())
-            } else {
-                None
-            },
-        })),
+        [] => Ok(Action::Import {
+            words: import_words(options),
+            rejects,
+        }),
         _ => Err(CauseOrMemory::Wrong(WrongCause::TooMany)),
+    }
+}
+
+// How pairs are imported.
+fn import_words(options: &Options) -> ImportWords
+    ensures { result ≡ words_of options.now }
+{
+    ImportWords {
+        format: options.format,
+        is_atomic: options.is_atomic,
+        create: if options.is_create {
+            Some(options.given.of_new())
+        } else {
+            None
+        },
     }
 }
 

@@ -19,6 +19,7 @@ pub enum CommandOption {
     Format,
     Create,
     Atomic,
+    Rejects,
     Bare,
     Json,
 }
@@ -39,6 +40,7 @@ impl CommandOption {
             CommandOption::Format => "format",
             CommandOption::Create => "create",
             CommandOption::Atomic => "atomic",
+            CommandOption::Rejects => "rejects",
             CommandOption::Bare => "bare",
             CommandOption::Json => "json",
         }
@@ -53,6 +55,7 @@ impl CommandOption {
             CommandOption::Wards => "a number from 0 to 4",
             CommandOption::Keyer => "`sha` or `plain`",
             CommandOption::Format => "`words`, `tsv` or `jsonl`",
+            CommandOption::Rejects => "the path of a new file, in UTF-8",
             CommandOption::Hex
             | CommandOption::Raw
             | CommandOption::New
@@ -73,6 +76,7 @@ impl CommandOption {
             _ if is_word(name, "format") => Some(CommandOption::Format),
             _ if is_word(name, "create") => Some(CommandOption::Create),
             _ if is_word(name, "atomic") => Some(CommandOption::Atomic),
+            _ if is_word(name, "rejects") => Some(CommandOption::Rejects),
             _ if is_word(name, "bare") => Some(CommandOption::Bare),
             _ if is_word(name, "json") => Some(CommandOption::Json),
             b"wait" => Some(CommandOption::Wait),
@@ -97,7 +101,8 @@ impl CommandOption {
             | CommandOption::Cap
             | CommandOption::Wards
             | CommandOption::Keyer
-            | CommandOption::Format => true,
+            | CommandOption::Format
+            | CommandOption::Rejects => true,
             CommandOption::Hex
             | CommandOption::Raw
             | CommandOption::New
@@ -126,6 +131,7 @@ impl CommandOption {
             | (CommandOption::Format, CommandOption::Format)
             | (CommandOption::Create, CommandOption::Create)
             | (CommandOption::Atomic, CommandOption::Atomic)
+            | (CommandOption::Rejects, CommandOption::Rejects)
             | (CommandOption::Bare, CommandOption::Bare)
             | (CommandOption::Json, CommandOption::Json) => true,
             _ => false,

@@ -86,6 +86,7 @@ impl EverydayCommand {
                 | CommandOption::Hex
                 | CommandOption::Create
                 | CommandOption::Atomic
+                | CommandOption::Rejects
                 | CommandOption::Cap
                 | CommandOption::Wards
                 | CommandOption::Keyer,

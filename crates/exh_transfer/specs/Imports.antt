@@ -1,18 +1,22 @@
 -- What an import prints, and how it ends.
-use Rattle.std.specs.Prelude.{◌≡◌, ◌+◌, ◌==◌, ◌&&◌, ℕ, Bool, List, ◌++◌, codes, decimal, min, Option, Result, Ok, Err, if◌then◌else◌}
+use Rattle.std.specs.Prelude.{◌≡◌, ◌+◌, ◌==◌, ◌&&◌, ℕ, Bool, List, ◌++◌, codes, decimal, min, Option, Some, None, is_some, Result, Ok, Err, IsTrue, if◌then◌else◌}
 use Rattle.exh_answer.specs.declared.status.Status.{Status}
 use Rattle.exh_answer.specs.declared.status.Status.TheVariants.{Done, Missing, Partly, Refused}
 use Rattle.exh_file.specs.Opened.{OpenedState}
 use Rattle.exh_import.specs.declared.imported_store.Added.{Added}
 use Rattle.exh_import.specs.declared.imported_store.Added.TheVariants as added
 use Rattle.exh_import.specs.declared.imported.Imported.{Imported}
-use Rattle.exh_map.specs.FileMap.{IsPut}
+use Rattle.exh_map.specs.FileMap.{IsPut, KeepsMap}
 use Rattle.exh_map.specs.declared.put.Put.{Put}
+use Rattle.exh_map.specs.declared.store_error.StoreError.{StoreError}
+use Rattle.exhash.specs.Store.{IsHeld}
+use Rattle.exhash.specs.declared.store.Store.{Store}
 use Rattle.exh_map.specs.declared.put.Put.TheVariants as put
 use Rattle.exh_text.specs.Contents.{on_line}
-use Rattle.exh_run.specs.Ends.{Ended, Ends, Says, Silent, change_status}
+use Rattle.exh_run.specs.Ends.{Ended, Ends, Says, Silent, change_status, unmade_status}
 use Rattle.exh_transfer.specs.declared.import_refusal.ImportRefusal.{ImportRefusal}
-use Rattle.exh_transfer.specs.declared.import_refusal.ImportRefusal.TheVariants.{Store, Text}
+use Rattle.exh_transfer.specs.declared.import_refusal.ImportRefusal.TheVariants.{Store as Halted, Text, Unmade, Unopened}
+use Rattle.exh_transfer.specs.declared.outcome.Outcome.{Outcome}
 
 -- a pair is put, or finds no room
 abbrev pub added_of : Put → Added
@@ -23,6 +27,25 @@ added_of put.Full = added.Full
 -- it is put into a store's one map, which has another one then
 abbrev pub IsAdded : OpenedState → List ℕ → List ℕ → Added → OpenedState → Type 0
 IsAdded before key value said after = (put : Put) × (IsPut before key value put after × (said ≡ added_of put))
+
+-- so of the store that is held
+abbrev pub IsAddedTo : Option Store → List ℕ → List ℕ → Added → Option Store → Type 0
+IsAddedTo (Some before) key value said (Some after) = IsAdded before.map key value said after.map
+IsAddedTo before key value said after = ⊥
+
+-- the store that is held keeps its map
+abbrev pub KeepsPairs : Option Store → Option Store → Type 0
+KeepsPairs (Some before) (Some after) = KeepsMap before.map after.map
+KeepsPairs before after = ⊥
+
+-- a store is held, with its file
+abbrev pub IsHeldAgain : Option Store → Type 0
+IsHeldAgain None = ⊥
+IsHeldAgain (Some store) = IsHeld store.file
+
+-- why a call was refused is kept
+abbrev pub HasRefusal : Option StoreError → Type 0
+HasRefusal refusal = IsTrue (is_some refusal)
 
 -- how many lines stood for pairs, at most 2^64 - 1
 abbrev pub greatest : ℕ
@@ -38,19 +61,28 @@ import_line done = on_line (codes "imported " ++ (decimal done.pairs ++ (codes "
 abbrev pub import_status : Imported → Status
 import_status done = if (done.rejected == 0) && (done.full == 0) then Done else Partly
 
+-- where a file for lines can't be written, the status is another one
+abbrev pub status_told : Bool → Status → Status
+status_told unwritten status = if unwritten then Refused else status
+
 -- all lines were read: the text was cut off, or nothing was put in since all or none should be, or the pairs are in the file
-abbrev pub done_ended : Imported → Ended
-done_ended done =
+abbrev pub done_ended : Bool → Imported → Ended
+done_ended unwritten done =
     if done.is_cut_off then Silent Refused
-    else (if done.is_committed then Says (import_line done) (import_status done) else Silent Missing)
+    else (if done.is_committed then Says (import_line done) (status_told unwritten (import_status done)) else Silent (status_told unwritten Missing))
 
 abbrev pub unimported_status : ImportRefusal → Status
-unimported_status (Store fault) = change_status fault
-unimported_status (Text fault) = Refused
+unimported_status (Unopened fault) = change_status fault
+unimported_status (Unmade fault) = unmade_status fault
+unimported_status (Text fault pairs) = Refused
+unimported_status (Halted fault pairs) = change_status fault
 
-abbrev pub import_ended : Result Imported ImportRefusal → Ended
-import_ended (Ok done) = done_ended done
-import_ended (Err refusal) = Silent (unimported_status refusal)
+abbrev pub ended_by : Bool → Result Imported ImportRefusal → Ended
+ended_by unwritten (Ok done) = done_ended unwritten done
+ended_by unwritten (Err refusal) = Silent (unimported_status refusal)
+
+abbrev pub import_ended : Outcome → Ended
+import_ended outcome = ended_by outcome.is_unwritten outcome.imported
 
 abbrev pub ImportEnds : Option (List ℕ) → Option (List ℕ) → Bool → Status → Type 0
-ImportEnds old new failed status = (done : Result Imported ImportRefusal) × Ends (import_ended done) old new failed status
+ImportEnds old new failed status = (outcome : Outcome) × Ends (import_ended outcome) old new failed status

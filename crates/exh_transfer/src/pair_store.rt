@@ -1,42 +1,121 @@
 //! A store as an import sees it.
+ghost use Rattle.std.specs.Prelude.{◌≡◌};
+ghost use Rattle.exh_transfer.specs.Imports.{HasRefusal, IsAddedTo, IsHeldAgain, KeepsPairs};
 
+use crate::progress::Progress;
 use exh_import::{Added, ImportedStore, Refused};
+use exh_run::{Run, tell_refused};
 use exhash::{Put, Store, StoreError};
+use std::thread::sleep;
+use std::time::Duration;
 
-/// A store into which pairs are put, and why it refused a call, if it did.
+// For so many milliseconds others are let at the file between two commits.
+const REST: u64 = 10;
+
+/// A store into which pairs are put, how many of them, and why it refused a call, if it did.
 #[derive(Drop)]
-pub(crate) struct PairStore<'r> {
-    pub(crate) store: Store<'r>,
-    pub(crate) refusal: Option<StoreError>,
+pub(crate) struct PairStore<'a, 'r> {
+    run: &'a Run<'r>,
+    // `None` where it wasn't opened again.
+    store: Option<Store<'r>>,
+    refusal: Option<StoreError>,
+    // Pairs that are committed, and those that were put since the last commit.
+    pub(crate) committed: u64,
+    unsaved: u64,
+    progress: Progress,
 }
 
-// The store's one map takes the pair as the map machine says, and a commit keeps the map.
-impl ImportedStore for PairStore<'_> {
-    ghost use Rattle.exh_map.specs.FileMap.{KeepsMap};
-    ghost use Rattle.exh_transfer.specs.Imports.{IsAdded};
+impl<'a, 'r> PairStore<'a, 'r> {
+    /// Of a store into which nothing is put yet.
+    pub(crate) fn new(run: &'a Run<'r>, store: Store<'r>) -> PairStore<'a, 'r> {
+        PairStore {
+            run,
+            store: Some(store),
+            refusal: None,
+            committed: 0,
+            unsaved: 0,
+            progress: Progress::new(run.rt),
+        }
+    }
 
-    ghost gives = { λ old key value added new. IsAdded old.store.map key value added new.store.map };
+    /// Why it refused a call, if it did.
+    pub(crate) fn refusal(self) -> Option<StoreError> {
+        self.refusal
+    }
 
-    ghost saves = { λ old new. KeepsMap old.store.map new.store.map };
+    // Keeps why a call is refused.
+    fn refuse(&mut self, fault: StoreError) -> Refused
+        ensures refused { HasRefusal self.new.refusal }
+    {
+        self.refusal = Some(fault);
+        Refused
+    }
+
+    // Counts the pairs that are committed now.
+    fn count(&mut self)
+        ensures store { self.new.store ≡ self.old.store }
+    {
+        self.committed = self.committed.saturating_add(self.unsaved);
+        self.unsaved = 0;
+    }
+}
+
+// The store's one map takes the pair as the map machine says, and a commit keeps the map. Behind a rest it is what others left.
+impl ImportedStore for PairStore<'_, '_> {
+    ghost gives = { λ old key value added new. IsAddedTo old.store key value added new.store };
+
+    ghost saves = { λ old new. KeepsPairs old.store new.store };
+
+    ghost rests = { λ old new. IsHeldAgain new.store };
+
+    ghost refused = { λ old new. HasRefusal new.refusal };
 
     fn put(&mut self, key: &[u8], value: &[u8]) -> Result<Added, Refused> {
-        match self.store.put(key, value) {
+        let Some(store) = &mut self.store else {
+            return Err(self.refuse(StoreError::Vanished));
+        };
+        match store.put(key, value) {
             Ok(Put::Full) => Ok(Added::Full),
-            Ok(Put::New | Put::Was(_)) => Ok(Added::Put),
-            Err(fault) => {
-                self.refusal = Some(fault);
-                Err(Refused)
+            Ok(Put::New | Put::Was(_)) => {
+                self.unsaved = self.unsaved.saturating_add(1);
+                Ok(Added::Put)
             }
+            Err(fault) => Err(self.refuse(fault)),
         }
     }
 
     fn commit(&mut self) -> Result<(), Refused> {
-        match self.store.commit() {
-            Ok(()) => Ok(()),
-            Err(fault) => {
-                self.refusal = Some(fault);
-                Err(Refused)
+        let Some(store) = &mut self.store else {
+            return Err(self.refuse(StoreError::Vanished));
+        };
+        match store.commit() {
+            Ok(()) => {
+                self.count();
+                Ok(())
             }
+            Err(fault @ StoreError::Unsynchronized(_)) => {
+                tell_refused(self.run.rt, self.run.path, &fault);
+                self.count();
+                Ok(())
+            }
+            Err(fault @ StoreError::Unheld(_)) => {
+                self.count();
+                Err(self.refuse(fault))
+            }
+            Err(fault) => Err(self.refuse(fault)),
+        }
+    }
+
+    fn rest(&mut self) -> Result<(), Refused> {
+        self.store = None;
+        self.progress.tell(self.run, self.committed);
+        sleep(self.run.rt, Duration::from_millis(REST));
+        match Store::open_within(self.run.rt, self.run.path, self.run.seconds) {
+            Ok(store) => {
+                self.store = Some(store);
+                Ok(())
+            }
+            Err(fault) => Err(self.refuse(fault)),
         }
     }
 }

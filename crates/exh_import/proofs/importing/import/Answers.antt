@@ -1,9 +1,10 @@
-use Rattle.std.proofs.Common.{refl, sym, subst}
+use Rattle.std.proofs.Common.{◌≡◌, refl, sym, ap, ◌∙◌, subst, length, arith}
 use Rattle.std.specs.Io.KnownBytes.{Keeps}
 use Rattle.exh_import.specs.declared.taking.Taking.{Taking}
 use Rattle.exh_import.specs.Counting.{starts}
 use Rattle.exh_import.specs.Imports.{Point, TakesLine}
 use Rattle.exh_import.specs.LineReader.{text_left}
+use Rattle.exh_import.proofs.Ends.{has_lines, if_err_map, next_cause, read_cause, store_cause}
 use Rattle.exh_import.proofs.Texts.{IsAmid, IsWhole, amid_start, amid_step, if_ok_map, whole_start, whole_step}
 use Rattle.exh_import.proofs.Puts.{imports_put}
 use Rattle.exh_import.proofs.importing.import.Goals as goal
@@ -12,32 +13,37 @@ pub lines-init : goal.lines-init
 lines-init g c =
     let G = g.S.ImportedStore.gives in
     let V = g.S.ImportedStore.saves in
+    let W = g.S.ImportedStore.rests in
     let T = g.L.Rejects.told in
     let R = g.R.Read.remaining in
-    let known = R c.args.reader.now in
+    let known = text_left R c.args.lines.now in
     let start : Point g.row.S.Denot g.row.L.Denot = record { taking = starts c.args.options; store = c.args.store.now; listener = c.args.listener.now } in
     let now = c.is_over.new.self in
-    let kept = subst (λ k. Keeps k (text_left R now)) c.new-lines.ensures.text c.in_ok-is_over.ensures.text in
+    let kept = c.in_ok-is_over.ensures.text in
     record {
+      same_reader = c.in_ok-is_over.ensures.same_reader;
       ends = c.in_ok-is_over.ensures.ends;
-      over = λ is. subst (λ (t : Taking). IsWhole G V T R known start (record { taking = t; store = c.args.store.now; listener = c.args.listener.now })) (sym c.new-taking.ensures) (whole_start G V T R known start now kept c.in_ok-is_over.ensures.ends (c.in_ok-is_over.ensures.over is));
-      amid = λ is. (c.in_ok-is_over.ensures.some is, subst (λ (t : Taking). IsAmid G V T R known start now (record { taking = t; store = c.args.store.now; listener = c.args.listener.now })) (sym c.new-taking.ensures) (amid_start G V T R known start now kept));
+      over = λ is. subst (λ (t : Taking). IsWhole G V W T R known start (record { taking = t; store = c.args.store.now; listener = c.args.listener.now })) (sym c.new-taking.ensures) (whole_start G V W T R known start now kept c.in_ok-is_over.ensures.ends (c.in_ok-is_over.ensures.over is));
+      amid = λ is. (
+        c.in_ok-is_over.ensures.some is,
+        subst (λ (t : Taking). (amid : IsAmid G V W T R known start now (record { taking = t; store = c.args.store.now; listener = c.args.listener.now })) × (length amid.front ≡ 0)) (sym c.new-taking.ensures) (amid_start G V W T R known start now kept, refl),
+      );
     }
 
 pub returns-then-is_over-clause-imports : goal.returns-then-is_over-clause-imports
 returns-then-is_over-clause-imports g c =
     let whole = c.lines.invariant.over c.if-is_over.true in
-    if_ok_map c.finish.result _ _ c.finish.ensures (λ imported finishes.
+    if_ok_map c.finish.result _ _ c.finish.ensures.finished (λ imported finishes.
     (whole.lines, (whole.text, record { next = record { taking = c.lines.taking; store = c.lines.store; listener = c.lines.listener }; takes = whole.takes; finishes = finishes; listener_is = refl })))
 
 pub returns-then-is_over-clause-pairs : goal.returns-then-is_over-clause-pairs
 returns-then-is_over-clause-pairs g c =
     let whole = c.lines.invariant.over c.if-is_over.true in
-    if_ok_map c.finish.result _ _ c.finish.ensures (λ imported finishes. (
+    if_ok_map c.finish.result _ _ c.finish.ensures.finished (λ imported finishes. (
       whole.lines,
       (
         whole.text,
-        imports_put g.S.ImportedStore.gives g.S.ImportedStore.saves g.L.Rejects.told c.args.options c.args.store.now c.args.listener.now whole.lines imported c.finish.new.store c.lines.listener
+        imports_put g.S.ImportedStore.gives g.S.ImportedStore.saves g.S.ImportedStore.rests g.L.Rejects.told c.args.options c.args.store.now c.args.listener.now whole.lines imported c.finish.new.store c.lines.listener
             (record { next = record { taking = c.lines.taking; store = c.lines.store; listener = c.lines.listener }; takes = whole.takes; finishes = finishes; listener_is = refl }),
       ),
     ))
@@ -52,18 +58,23 @@ pub lines-preserved : goal.lines-preserved
 lines-preserved g c =
     let G = g.S.ImportedStore.gives in
     let V = g.S.ImportedStore.saves in
+    let W = g.S.ImportedStore.rests in
     let T = g.L.Rejects.told in
     let R = g.R.Read.remaining in
-    let known = R c.args.reader.now in
+    let known = text_left R c.args.lines.now in
     let start : Point g.row.S.Denot g.row.L.Denot = record { taking = starts c.args.options; store = c.args.store.now; listener = c.args.listener.now } in
     let old = c.lines.lines in
     let new = c.take_next.new.lines in
     let now : Point g.row.S.Denot g.row.L.Denot = record { taking = c.lines.taking; store = c.lines.store; listener = c.lines.listener } in
     let next : Point g.row.S.Denot g.row.L.Denot = record { taking = c.take_next.new.taking; store = c.take_next.new.store; listener = c.take_next.new.listener } in
-    let amid = (c.lines.invariant.amid c.if-is_over.false).1 in
+    let amid = (c.lines.invariant.amid c.if-is_over.false).1.0 in
     let told = c.in_ok-is_over-2.ensures in
     record {
+      same_reader = told.same_reader ∙ c.lines.invariant.same_reader;
       ends = told.ends;
-      over = λ is. whole_step G V T R known start old new now next amid told.next told.ends (told.over is) (subst (λ b. TakesLine G V T b new.line.items now next) is told.taken);
-      amid = λ is. (told.some is, amid_step G V T R known start old new now next amid told.next (λ over. told.some is over.taken) (subst (λ b. TakesLine G V T b new.line.items now next) is told.taken));
+      over = λ is. whole_step G V W T R known start old new now next amid told.next told.ends (told.over is) (subst (λ b. TakesLine G V W T b new.line.items now next) is told.taken);
+      amid = λ is. (
+        told.some is,
+        amid_more G V W T R known start old new now next amid c.lines._line (c.lines.invariant.amid c.if-is_over.false).1.1 told.next (λ over. told.some is over.taken) (subst (λ b. TakesLine G V W T b new.line.items now next) is told.taken),
+      );
     }
