@@ -6,7 +6,7 @@ use Rattle.exh_settings.specs.declared.file_settings.FileSettings.{FileSettings}
 use Rattle.exh_request.specs.declared.action.Action.{Action}
 use Rattle.exh_request.specs.declared.action.Action.TheVariants as actions
 use Rattle.exh_request.specs.declared.everyday_command.EverydayCommand.{EverydayCommand}
-use Rattle.exh_request.specs.declared.everyday_command.EverydayCommand.TheVariants.{Create, Get, Put, Del, Swap, Backup, Import, Export, Compact, Stats}
+use Rattle.exh_request.specs.declared.everyday_command.EverydayCommand.TheVariants.{Create, Get, Put, Del, Swap, Backup, Import, Export, Compact, Stats, Salvage}
 use Rattle.exh_request.specs.declared.form.Form.{Form}
 use Rattle.exh_request.specs.declared.given_settings.GivenSettings.{GivenSettings}
 use Rattle.exh_request.specs.declared.import_words.ImportWords.{ImportWords}
@@ -48,6 +48,7 @@ pub data ActionText : Type 0 where
   Exporting : PairFormat → Bool → ActionText
   Compacting : GivenSettings → ActionText
   Counting : Bool → ActionText
+  Salvaging : PairFormat → Bool → ActionText
 
 pub record RequestText : Type 0 where
   pub path : List ℕ
@@ -72,6 +73,7 @@ action_text (actions.Import words) = Importing words
 action_text (actions.Export format bare) = Exporting format bare
 action_text (actions.Compact given) = Compacting given
 action_text (actions.Stats json) = Counting json
+action_text (actions.Salvage format bare) = Salvaging format bare
 
 abbrev pub request_text : Request → RequestText
 request_text request = record { path = request.path.now; action = action_text request.action; wait = request.wait; form = request.form }
@@ -169,6 +171,10 @@ abbrev pub stats_asked : Options → List PlacedWord → Result ActionText Wrong
 stats_asked options [] = Ok (Counting options.is_json)
 stats_asked options (one ∷ rest) = Err TooMany
 
+abbrev pub salvage_asked : Options → List PlacedWord → Result ActionText WrongCause
+salvage_asked options [] = Ok (Salvaging options.format options.is_bare)
+salvage_asked options (one ∷ rest) = Err TooMany
+
 -- what the command does, by the words behind its path
 abbrev pub action_asked : EverydayCommand → Options → List PlacedWord → Result ActionText WrongCause
 action_asked Create options places = create_asked options places
@@ -181,6 +187,7 @@ action_asked Import options places = import_asked options places
 action_asked Export options places = export_asked options places
 action_asked Compact options places = compact_asked options places
 action_asked Stats options places = stats_asked options places
+action_asked Salvage options places = salvage_asked options places
 
 -- ---- the words behind a command
 

@@ -6,11 +6,15 @@ pub use compacting::compact;
 pub use counting::stats;
 pub use exporting::export;
 pub use importing::import;
+pub use salvaging::salvage;
 
 mod compacting;
 mod counting;
 mod exporting;
 mod import_refusal;
 mod importing;
+mod open_blocks;
 mod pair_store;
 mod rejected;
+mod salvage_notes;
+mod salvaging;

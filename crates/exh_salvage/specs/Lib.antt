@@ -1,0 +1,4 @@
+pub mod Blocks
+pub mod SavedBlock
+pub mod Salvage
+pub mod SavedLaws
