@@ -1,1 +1,2 @@
+mod Steps
 mod SavedPages
