@@ -2,3 +2,4 @@ pub mod Blocks
 pub mod SavedBlock
 pub mod Salvage
 pub mod SavedLaws
+pub mod WholeLaws

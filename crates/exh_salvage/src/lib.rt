@@ -1,7 +1,7 @@
 //! What can be saved of a page file, whatever stands in it: the pairs of each block that is the image of a page.
 #![tactic(auto)]
 
-pub use laws::pages_are_saved;
+pub use laws::{pages_are_saved, whole_files_are_saved};
 pub use read_blocks::ReadBlocks;
 pub use repeats::{Repeat, repeats_in};
 pub use salvage::{SHOWN_PLACES, Salvage, SavedPair};
