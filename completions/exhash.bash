@@ -4,7 +4,7 @@ _exhash() {
     local word=${COMP_WORDS[COMP_CWORD]} last=${COMP_WORDS[COMP_CWORD - 1]} options=--help
     COMPREPLY=()
     if ((COMP_CWORD == 1)); then
-        mapfile -t COMPREPLY < <(compgen -W 'create get put del swap backup import export compact stats check dump pairs load convert serve storm version manual help --help --version' -- "$word")
+        mapfile -t COMPREPLY < <(compgen -W 'create get put del swap backup import export compact stats salvage check dump pairs load convert serve storm version manual help --help --version' -- "$word")
         return
     fi
     case ${COMP_WORDS[1]} in
@@ -29,8 +29,9 @@ _exhash() {
                     ;;
             esac
             ;;
-        export)
-            options='--format --hex --bare --wait --help'
+        export | salvage)
+            options='--format --hex --bare --help'
+            [[ ${COMP_WORDS[1]} == salvage ]] || options+=' --wait'
             case $last in
                 --wait) return ;;
                 --format)
@@ -56,7 +57,7 @@ _exhash() {
         del) options='--from --hex --wait --help' ;;
         swap) options='--hex --wait --help' ;;
         help | manual)
-            mapfile -t COMPREPLY < <(compgen -W 'create get put del swap backup import export compact stats check dump pairs load convert serve storm version manual' -- "$word")
+            mapfile -t COMPREPLY < <(compgen -W 'create get put del swap backup import export compact stats salvage check dump pairs load convert serve storm version manual' -- "$word")
             return
             ;;
         *) return ;;

@@ -8,7 +8,7 @@ from .version import KEY_LIMIT, VALUE_LIMIT
 
 EVERYDAY = ("create", "get", "put", "del", "swap", "backup")
 # Those about all pairs, which tests/transfers runs.
-TRANSFERS = ("import", "export", "compact", "stats")
+TRANSFERS = ("import", "export", "compact", "stats", "salvage")
 STANDARD_INPUT = b"-"
 # The greatest number of seconds that a run may be asked to wait, and that without the option.
 WAIT_LIMIT, USUAL_WAIT = 86400, 5

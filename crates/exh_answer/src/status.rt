@@ -20,7 +20,7 @@ pub enum Status {
     Missing,
     /// Another process had the file all the while, or changed it again and again while it was read: 4.
     Busy,
-    /// Some of what stood on standard input was done, and the rest said on standard error: 5.
+    /// Some of it was done, and standard error says of the rest: 5.
     Partly,
 }
 

@@ -259,7 +259,7 @@ is_command_name word =
     || bytes_eq word (codes "storm") || bytes_eq word (codes "get") || bytes_eq word (codes "put") || bytes_eq word (codes "del")
     || bytes_eq word (codes "swap") || bytes_eq word (codes "pairs") || bytes_eq word (codes "convert") || bytes_eq word (codes "create")
     || bytes_eq word (codes "backup") || bytes_eq word (codes "import") || bytes_eq word (codes "export") || bytes_eq word (codes "compact")
-    || bytes_eq word (codes "stats") || bytes_eq word (codes "version") || bytes_eq word (codes "manual")
+    || bytes_eq word (codes "stats") || bytes_eq word (codes "salvage") || bytes_eq word (codes "version") || bytes_eq word (codes "manual")
 
 abbrev pub manual_of : Option (List ℕ) → Option Named
 manual_of None = Some (TellingManual None)

@@ -7,7 +7,7 @@ use crate::fault::CliFault;
 use crate::names::{
     ATOMIC, BACKUP, BARE, CAP, CHECK, COMPACT, CONVERT, CREATE, CREATE_FLAG, DEL, DUMP, EXPORT,
     FILE, FORMAT, FROM, GET, HELP, HEX, IMPORT, JSON, KEYER, KEYER_NAME, LOAD, MANUAL, NEW_FLAG, NUMBER,
-    PAIRS, PROGRAM, PUT, RAW, REJECTS, REPLACE, SERVE, STATS, STORM, SWAP, VERSION, WAIT, WARDS,
+    PAIRS, PROGRAM, PUT, RAW, REJECTS, REPLACE, SALVAGE, SERVE, STATS, STORM, SWAP, VERSION, WAIT, WARDS,
 };
 use crate::parser::{
     bare_command, bare_program, check, convert, dump, flag, load, manual, option, pairs, serve,
@@ -67,6 +67,7 @@ fn command_named<'a>(alloc: Global, name: &str) -> Result<Command<'a>, AllocErro
         EXPORT => export(alloc),
         COMPACT => compact(alloc),
         STATS => stats(alloc),
+        SALVAGE => salvage(alloc),
         CHECK => check(alloc),
         DUMP => dump(alloc),
         PAIRS => pairs(alloc),
@@ -147,7 +148,8 @@ fn everyday_program<'a>(alloc: Global) -> Result<Command<'a>, AllocError> {
     let program = with(program, import(alloc));
     let program = with(program, export(alloc));
     let program = with(program, compact(alloc));
-    with(program, stats(alloc))
+    let program = with(program, stats(alloc));
+    with(program, salvage(alloc))
 }
 
 // A program with one command more, where both were made.
@@ -296,7 +298,7 @@ fn export<'a>(alloc: Global) -> Result<Command<'a>, AllocError> {
     )
     .arg(format(alloc))?
     .arg(hex(alloc))?
-    .arg(flag(alloc, BARE, "Leaves the first line and the last out"))?
+    .arg(bare(alloc))?
     .arg(wait(alloc))
 }
 
@@ -341,6 +343,24 @@ fn stats<'a>(alloc: Global) -> Result<Command<'a>, AllocError> {
     )
     .arg(flag(alloc, JSON, "One JSON object"))?
     .arg(wait(alloc))
+}
+
+// What help tells of `salvage`.
+fn salvage<'a>(alloc: Global) -> Result<Command<'a>, AllocError> {
+    bare_command(
+        alloc,
+        SALVAGE,
+        exh_help::salvage::ABOUT,
+        exh_help::salvage::USAGE,
+        exh_help::salvage::TEXT,
+    )
+    .arg(format(alloc))?
+    .arg(hex(alloc))?
+    .arg(bare(alloc))
+}
+
+fn bare<'a>(alloc: Global) -> Arg<'a> {
+    flag(alloc, BARE, "Leaves the first line and the last out")
 }
 
 fn wait<'a>(alloc: Global) -> Arg<'a> {

@@ -11,8 +11,8 @@ use crate::help::{told_by_program, usage_error};
 use crate::load_way::LoadWay;
 use crate::names::{
     BACKUP, CALLERS, CALLS, CAP, CHECK, COMMAND, COMPACT, CONVERT, COPIES, CREATE, DEL, DUMP,
-    EXPORT, GET, IMPORT, INTO, KEYER, LOAD, LONG, MANUAL, NEW, OPEN, PAIRS, PATH, PUT, SAVE, SERVE,
-    STATS, STORM, SWAP, VERSION, WARDS,
+    EXPORT, GET, IMPORT, INTO, KEYER, LOAD, LONG, MANUAL, NEW, OPEN, PAIRS, PATH, PUT, SALVAGE,
+    SAVE, SERVE, STATS, STORM, SWAP, VERSION, WARDS,
 };
 use crate::page_file_version::PageFileVersion;
 use crate::parser::parser;
@@ -325,6 +325,7 @@ fn is_command(word: &str) -> bool
         | EXPORT
         | COMPACT
         | STATS
+        | SALVAGE
         | VERSION
         | MANUAL => true,
         _ => false,

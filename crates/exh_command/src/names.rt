@@ -30,6 +30,9 @@ pub(crate) const COMPACT: &str = "compact";
 /// The command that counts what a page file has.
 pub(crate) const STATS: &str = "stats";
 
+/// The command that prints the pairs of the blocks that are live pages.
+pub(crate) const SALVAGE: &str = "salvage";
+
 /// The command that says whether a file is a legal page file.
 pub(crate) const CHECK: &str = "check";
 
@@ -114,7 +117,7 @@ pub(crate) const REPLACE: &str = "replace";
 /// The option of `get` and of `del` by which keys stand on standard input.
 pub(crate) const FROM: &str = "from";
 
-/// The option of `import` and of `export` that names how pairs are written.
+/// The option of `import`, `export` and `salvage` that names how pairs are written.
 pub(crate) const FORMAT: &str = "format";
 
 /// The flag of `import` by which a file is made where none is.
@@ -129,7 +132,7 @@ pub(crate) const REJECTS: &str = "rejects";
 /// What help calls that file.
 pub(crate) const FILE: &str = "FILE";
 
-/// The flag of `export` that leaves its first line and its last out.
+/// The flag of `export` and of `salvage` that leaves the first line and the last out.
 pub(crate) const BARE: &str = "bare";
 
 /// The flag of `stats` that prints JSON.

@@ -23,6 +23,7 @@ use Rattle.exh_transfer.specs.Compacts.{CompactEnds}
 use Rattle.exh_transfer.specs.Counts.{StatsEnd}
 use Rattle.exh_transfer.specs.Exports.{ExportEnds}
 use Rattle.exh_transfer.specs.Imports.{ImportEnds}
+use Rattle.exh_transfer.specs.Salvages.{SalvageEnds}
 use Rattle.exh_everyday.specs.Endings.{change_ended, copied_status, del_several_ended, get_ended, get_several_ended}
 
 -- the change that a put asks for
@@ -79,3 +80,4 @@ RunEnds form (actions.Import words rejects) old new failed status = ImportEnds o
 RunEnds form (actions.Export format bare) old new failed status = ExportEnds format form.is_hex bare old new failed status
 RunEnds form (actions.Compact given) old new failed status = CompactEnds old new failed status
 RunEnds form (actions.Stats json) old new failed status = StatsEnd json old new failed status
+RunEnds form (actions.Salvage format bare) old new failed status = SalvageEnds format form.is_hex bare old new failed status

@@ -14,7 +14,7 @@ use exh_request::{Action, NewValue, PutWhen, Request};
 use exh_run::{Run, input_value};
 use exh_stream::Output;
 use exh_system::Reason;
-use exh_transfer::{compact, export, import, stats};
+use exh_transfer::{compact, export, import, salvage, stats};
 use std::io::Write;
 
 /// Does what a request asks for: the answer goes to an output that holds nothing back, and what is refused, or absent, is said
@@ -65,6 +65,7 @@ fn run_action<W: Write>(run: &Run<'_>, action: &Action<'_>, output: &mut Output<
         Action::Export { format, is_bare } => export(run, *format, *is_bare, output),
         Action::Compact(given) => compact(run, given, output),
         Action::Stats { is_json } => stats(run, *is_json, output),
+        Action::Salvage { format, is_bare } => salvage(run, *format, *is_bare, output),
     }
 }
 

@@ -17,6 +17,7 @@ pub mod manual;
 pub mod pairs;
 pub mod program;
 pub mod put;
+pub mod salvage;
 pub mod serve;
 pub mod stats;
 pub mod storm;

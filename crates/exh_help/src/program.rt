@@ -22,6 +22,7 @@ pub const USAGE: &str = "exhash create PATH [--cap N] [--wards N] [--keyer K]
        exhash compact PATH [--cap N] [--wards N] [--keyer K]
          [--wait SECONDS]
        exhash stats PATH [--json] [--wait SECONDS]
+       exhash salvage PATH [--format words|tsv|jsonl] [--hex] [--bare]
        exhash check PATH
        exhash dump PATH
        exhash pairs PATH [--cap N] [--wards N] [--keyer K]
@@ -45,6 +46,7 @@ Examples:
   exhash import people.exh < people.text
   exhash compact people.exh
   exhash stats people.exh
+  exhash salvage people.exh > people.text
   exhash check people.exh
   exhash dump people.exh
   exhash pairs people.exh > people.pairs
@@ -59,8 +61,8 @@ Keys and values of create, get, put, del and swap are bytes as the shell hands
 them over, or hexadecimal with --hex. Writers wait for one another, 5 seconds or
 as long as --wait says, 0 to 86400, and readers for a change that is going on.
 
-Exit status of create, get, put, del, swap, backup, import, export, compact and
-stats:
+Exit status of create, get, put, del, swap, backup, import, export, compact,
+stats and salvage:
   0  done
   1  the file can't be read or isn't legal, has vanished, the system failed, or
      memory ended
@@ -68,7 +70,7 @@ stats:
   3  no such key; or not done by what stands there: `full`, `exists`, `differs`,
      `none`, or something at the path of a new file
   4  busy: another process had the file all the while
-  5  import put in some of the pairs
+  5  import put in some of the pairs; salvage found lost blocks
 Standard output has answers alone. Each refusal is a sentence on standard error,
 with the path, and with its number among all refusals in brackets at its end.
 Exit status of the other commands: 0 where the run is done, also with refused

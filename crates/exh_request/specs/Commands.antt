@@ -2,7 +2,7 @@
 use Rattle.std.specs.Prelude.{ℕ, Bool, true, false, List, Option, Some, None, codes, if◌then◌else◌}
 use Rattle.std.specs.Str.{bytes_eq}
 use Rattle.exh_request.specs.declared.everyday_command.EverydayCommand.{EverydayCommand}
-use Rattle.exh_request.specs.declared.everyday_command.EverydayCommand.TheVariants.{Create, Get, Put, Del, Swap, Backup, Import, Export, Compact, Stats}
+use Rattle.exh_request.specs.declared.everyday_command.EverydayCommand.TheVariants.{Create, Get, Put, Del, Swap, Backup, Import, Export, Compact, Stats, Salvage}
 use Rattle.exh_request.specs.declared.command_option.CommandOption.{CommandOption}
 use Rattle.exh_request.specs.declared.command_option.CommandOption.TheVariants as option
 
@@ -15,10 +15,11 @@ command_named word =
     else (if bytes_eq word (codes "export") then Some Export
     else (if bytes_eq word (codes "compact") then Some Compact
     else (if bytes_eq word (codes "stats") then Some Stats
+    else (if bytes_eq word (codes "salvage") then Some Salvage
     else (if bytes_eq word (codes "get") then Some Get
     else (if bytes_eq word (codes "put") then Some Put
     else (if bytes_eq word (codes "del") then Some Del
-    else (if bytes_eq word (codes "swap") then Some Swap else None)))))))))
+    else (if bytes_eq word (codes "swap") then Some Swap else None))))))))))
 
 -- the option of a name, without its two dashes
 abbrev pub option_named : List ℕ → Option CommandOption
@@ -77,6 +78,7 @@ has_value option.Json = false
 
 -- the options of a command
 abbrev pub takes : EverydayCommand → CommandOption → Bool
+takes Salvage option.Wait = false
 takes command option.Wait = true
 takes Create option.Cap = true
 takes Create option.Wards = true
@@ -102,6 +104,9 @@ takes Import option.Keyer = true
 takes Export option.Format = true
 takes Export option.Hex = true
 takes Export option.Bare = true
+takes Salvage option.Format = true
+takes Salvage option.Hex = true
+takes Salvage option.Bare = true
 takes Compact option.Cap = true
 takes Compact option.Wards = true
 takes Compact option.Keyer = true
@@ -120,3 +125,4 @@ command_word Import = codes "import"
 command_word Export = codes "export"
 command_word Compact = codes "compact"
 command_word Stats = codes "stats"
+command_word Salvage = codes "salvage"

@@ -6,7 +6,7 @@ use Rattle.exh_settings.specs.declared.file_settings.FileSettings.{FileSettings}
 use Rattle.exh_request.specs.declared.action.Action.{Action}
 use Rattle.exh_request.specs.declared.action.Action.TheVariants as actions
 use Rattle.exh_request.specs.declared.everyday_command.EverydayCommand.{EverydayCommand}
-use Rattle.exh_request.specs.declared.everyday_command.EverydayCommand.TheVariants.{Create, Get, Put, Del, Swap, Backup, Import, Export, Compact, Stats}
+use Rattle.exh_request.specs.declared.everyday_command.EverydayCommand.TheVariants.{Create, Get, Put, Del, Swap, Backup, Import, Export, Compact, Stats, Salvage}
 use Rattle.exh_request.specs.declared.command_option.CommandOption.TheVariants as option
 use Rattle.exh_request.specs.declared.form.Form.{Form}
 use Rattle.exh_request.specs.declared.given_settings.GivenSettings.{GivenSettings}
@@ -49,6 +49,7 @@ pub data ActionText : Type 0 where
   Exporting : PairFormat → Bool → ActionText
   Compacting : GivenSettings → ActionText
   Counting : Bool → ActionText
+  Salvaging : PairFormat → Bool → ActionText
 
 pub record RequestText : Type 0 where
   pub path : List ℕ
@@ -73,6 +74,7 @@ action_text (actions.Import words rejects) = Importing words (option_map (λ pat
 action_text (actions.Export format bare) = Exporting format bare
 action_text (actions.Compact given) = Compacting given
 action_text (actions.Stats json) = Counting json
+action_text (actions.Salvage format bare) = Salvaging format bare
 
 abbrev pub request_text : Request → RequestText
 request_text request = record { path = request.path.now; action = action_text request.action; wait = request.wait; form = request.form }
@@ -182,6 +184,10 @@ abbrev pub stats_asked : Options → List PlacedWord → Result ActionText Wrong
 stats_asked options [] = Ok (Counting options.is_json)
 stats_asked options (one ∷ rest) = Err TooMany
 
+abbrev pub salvage_asked : Options → List PlacedWord → Result ActionText WrongCause
+salvage_asked options [] = Ok (Salvaging options.format options.is_bare)
+salvage_asked options (one ∷ rest) = Err TooMany
+
 -- what the command does, by the path of a file that names lines, and the words behind its own path
 abbrev pub action_asked : EverydayCommand → Options → Option (List ℕ) → List PlacedWord → Result ActionText WrongCause
 action_asked Create options rejects places = create_asked options places
@@ -194,6 +200,7 @@ action_asked Import options rejects places = import_asked options rejects places
 action_asked Export options rejects places = export_asked options places
 action_asked Compact options rejects places = compact_asked options places
 action_asked Stats options rejects places = stats_asked options places
+action_asked Salvage options rejects places = salvage_asked options places
 
 -- ---- the words behind a command
 

@@ -43,6 +43,12 @@ pub enum Action<'w> {
         /// Without the lines that say where the pairs begin and end, by `--bare`.
         is_bare: bool,
     },
+    /// Print the pairs of each of its blocks that is a live page, whatever the others are.
+    Salvage {
+        format: PairFormat,
+        /// Without the lines that say where the pairs begin and end, by `--bare`.
+        is_bare: bool,
+    },
     /// Make it anew with as few pages as its pairs take, of these settings, and its own where none are named.
     Compact(GivenSettings),
     /// Print what it has and takes.

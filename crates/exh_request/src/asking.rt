@@ -2,7 +2,7 @@
 ghost use Rattle.std.specs.Prelude.{◌≡◌, map, option_map, IfOk, IfErr};
 ghost use Rattle.exh_request.specs.Causes.{IsCauseOf};
 ghost use Rattle.exh_request.specs.Line.{placed_word};
-ghost use Rattle.exh_request.specs.Request.{IsAnswered, action_asked, action_text, ask_for_help, backup_asked, called, compact_asked, create_asked, export_asked, help_of, import_asked, is_help, keys_asked, keys_text, new_value_asked, put_asked, put_of, rejects_asked, request_behind, request_text, several_asked, stats_asked, swap_asked, swap_of, words_of};
+ghost use Rattle.exh_request.specs.Request.{IsAnswered, action_asked, action_text, ask_for_help, backup_asked, called, compact_asked, create_asked, export_asked, help_of, import_asked, is_help, keys_asked, keys_text, new_value_asked, put_asked, put_of, rejects_asked, request_behind, request_text, salvage_asked, several_asked, stats_asked, swap_asked, swap_of, words_of};
 
 use crate::argument::{key_of, path_of, value_of};
 use crate::cause_or_memory::CauseOrMemory;
@@ -144,6 +144,7 @@ fn action_of<'w>(
         EverydayCommand::Export => export(places, options),
         EverydayCommand::Compact => compact(places, options),
         EverydayCommand::Stats => stats(places, options),
+        EverydayCommand::Salvage => salvage(places, options),
     }
 }
 
@@ -236,6 +237,19 @@ fn stats<'w>(places: &[Placed<'w>], options: &Options) -> Result<Action<'w>, Cau
     match places {
         [] => Ok(Action::Stats {
             is_json: options.is_json,
+        }),
+        _ => Err(CauseOrMemory::Wrong(WrongCause::TooMany)),
+    }
+}
+
+fn salvage<'w>(places: &[Placed<'w>], options: &Options) -> Result<Action<'w>, CauseOrMemory>
+    ensures ok { IfOk result (λ done. salvage_asked options.now (map placed_word places.now) ≡ Ok (action_text done)) }
+    ensures wrong { IfErr result (IsCauseOf (salvage_asked options.now (map placed_word places.now))) }
+{
+    match places {
+        [] => Ok(Action::Salvage {
+            format: options.format,
+            is_bare: options.is_bare,
         }),
         _ => Err(CauseOrMemory::Wrong(WrongCause::TooMany)),
     }

@@ -18,6 +18,7 @@ pub enum EverydayCommand {
     Export,
     Compact,
     Stats,
+    Salvage,
 }
 
 impl EverydayCommand {
@@ -36,6 +37,7 @@ impl EverydayCommand {
             EverydayCommand::Export => "export",
             EverydayCommand::Compact => "compact",
             EverydayCommand::Stats => "stats",
+            EverydayCommand::Salvage => "salvage",
         }
     }
 
@@ -51,6 +53,7 @@ impl EverydayCommand {
             _ if is_word(word, "export") => Some(EverydayCommand::Export),
             _ if is_word(word, "compact") => Some(EverydayCommand::Compact),
             _ if is_word(word, "stats") => Some(EverydayCommand::Stats),
+            _ if is_word(word, "salvage") => Some(EverydayCommand::Salvage),
             b"get" => Some(EverydayCommand::Get),
             b"put" => Some(EverydayCommand::Put),
             b"del" => Some(EverydayCommand::Del),
@@ -64,6 +67,7 @@ impl EverydayCommand {
         ensures { result ≡ takes self option }
     {
         match (self, option) {
+            (EverydayCommand::Salvage, CommandOption::Wait) => false,
             (_, CommandOption::Wait) => true,
             (
                 EverydayCommand::Create,
@@ -92,7 +96,7 @@ impl EverydayCommand {
                 | CommandOption::Keyer,
             ) => true,
             (
-                EverydayCommand::Export,
+                EverydayCommand::Export | EverydayCommand::Salvage,
                 CommandOption::Format | CommandOption::Hex | CommandOption::Bare,
             ) => true,
             (

@@ -5,7 +5,8 @@
 pub use input::{input_keys, input_value};
 pub use printing::tell_text;
 pub use refusal::{
-    is_nothing_at, made_status, refuse_change, refuse_reading, tell_absent, tell_full, tell_refused,
+    is_nothing_at, key_word, made_status, refuse_change, refuse_reading, tell_absent, tell_full,
+    tell_refused,
 };
 pub use run::Run;
 pub use saving::save;

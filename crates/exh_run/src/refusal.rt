@@ -114,8 +114,8 @@ pub fn tell_full(rt: &(impl Eprint + AllocGlobal), path: &str, key: &Key) {
     }
 }
 
-// The word of a key.
-fn key_word(rt: &impl AllocGlobal, key: &Key) -> Result<String, AllocError> {
+/// The word of a key in a text of pairs. An `AllocError` where memory is refused.
+pub fn key_word(rt: &impl AllocGlobal, key: &Key) -> Result<String, AllocError> {
     let mut word = Vec::new(rt.alloc());
     push_value(&mut word, key.as_bytes())?;
     match String::from_utf8(word) {

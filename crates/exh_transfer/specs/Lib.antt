@@ -3,3 +3,4 @@ pub mod Compacts
 pub mod Counts
 pub mod Exports
 pub mod Imports
+pub mod Salvages

@@ -1,0 +1,5 @@
+pub mod Blocks
+pub mod SavedBlock
+pub mod Salvage
+pub mod SavedLaws
+pub mod WholeLaws

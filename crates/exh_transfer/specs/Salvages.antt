@@ -1,0 +1,29 @@
+-- What a salvage prints, and how it ends.
+use Rattle.std.specs.Prelude.{◌==◌, ℕ, Bool, List, map, Option, Result, Ok, Err, if◌then◌else◌}
+use Rattle.exh_answer.specs.declared.status.Status.{Status}
+use Rattle.exh_answer.specs.declared.status.Status.TheVariants.{Done, Partly}
+use Rattle.exh_map.specs.declared.store_error.StoreError.{StoreError}
+use Rattle.exh_pair_text.specs.declared.pair_format.PairFormat.{PairFormat}
+use Rattle.exh_run.specs.Ends.{Ended, Ends, Says, Silent, reading_status}
+use Rattle.exh_salvage.specs.declared.salvage.Salvage.{Salvage}
+use Rattle.exh_salvage.specs.declared.salvage.SavedPair.{SavedPair}
+use Rattle.exh_transfer.specs.Exports.{export_text}
+
+abbrev pub both_of : SavedPair → List ℕ × List ℕ
+both_of pair = (pair.key, pair.value)
+
+-- the pairs that are saved, as an export has them, in the order of the blocks
+abbrev pub pairs_in : Salvage → List (List ℕ × List ℕ)
+pairs_in salvage = map both_of salvage.pairs.items
+
+-- no block is lost, or some are
+abbrev pub salvage_status : Salvage → Status
+salvage_status salvage = if salvage.lost == 0 then Done else Partly
+
+-- the file's blocks are gone through, or it isn't read
+abbrev pub salvage_ended : PairFormat → Bool → Bool → Result Salvage StoreError → Ended
+salvage_ended format hex bare (Ok salvage) = Says (export_text format hex bare (pairs_in salvage)) (salvage_status salvage)
+salvage_ended format hex bare (Err fault) = Silent (reading_status fault)
+
+abbrev pub SalvageEnds : PairFormat → Bool → Bool → Option (List ℕ) → Option (List ℕ) → Bool → Status → Type 0
+SalvageEnds format hex bare old new failed status = (salvaged : Result Salvage StoreError) × Ends (salvage_ended format hex bare salvaged) old new failed status
