@@ -23,7 +23,7 @@ string_utf8 false true bytes is all = IsUtf8-from_is_utf8 bytes (sym is)
 
 -- ---- its fields
 
-digits_again : (field : _) (bytes : List ℕ) → AllByRecursion (λ byte. byte < 256) bytes → hex_bytes field (string_by true bytes) ≡ Ok bytes
+pub digits_again : (field : _) (bytes : List ℕ) → AllByRecursion (λ byte. byte < 256) bytes → hex_bytes field (string_by true bytes) ≡ Ok bytes
 unfolding hex_bytes
 digits_again field bytes all = rw (hex_bytes_again 1 bytes all) refl
 

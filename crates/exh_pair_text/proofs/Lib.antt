@@ -7,4 +7,5 @@ pub mod Cuts
 pub mod JsonCases
 pub mod JsonText
 pub mod JsonAgain
+pub mod CsvAgain
 pub mod Marks

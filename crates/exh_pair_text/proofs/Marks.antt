@@ -1,17 +1,21 @@
 -- The line of a pair is neither the first nor the last of an export, and reads as the pair.
-use Rattle.std.proofs.Common.{◌≡◌, ◌≢◌, ℕ, ◌+◌, ◌-◌, ◌^◌, ◌<◌, ◌≤◌, List, [], ◌∷◌, ◌++◌, length, drop, ◌⊎◌, Bool, true, false, Option, Some, None, Ok, Decides, inl, inr, refl, sym, ap, ◌∙◌, decimal, length-append, arith}
-use Rattle.std.specs.Prelude.{All, codes, is_some, unwrap_or, nat_eq}
+use Rattle.std.proofs.Common.{◌≡◌, ◌≢◌, ℕ, ◌+◌, ◌-◌, ◌^◌, ◌<◌, ◌≤◌, List, [], ◌∷◌, ◌++◌, length, drop, get_or, ◌⊎◌, Bool, true, false, Option, Some, None, Ok, Decides, inl, inr, refl, sym, ap, ◌∙◌, decimal, length-append, arith}
+use Rattle.std.specs.Prelude.{codes, is_some, unwrap_or, nat_eq}
 use Rattle.std.specs.List.{AllByRecursion, starts_with}
 use Rattle.std.specs.Option.{option_and_then}
 use Rattle.std.specs.Str.{bytes_eq}
 use Rattle.std.specs.Str.Parse.{digits_value}
 use Rattle.std.proofs.lemmas.Bool.{false≢true}
 use Rattle.std.proofs.lemmas.Bool.Decides.{Decides-eqb, nat_tests}
-use Rattle.std.proofs.lemmas.List.Elements.{All-append, All-cons, All-from_recursion, recursion_from_All}
+use Rattle.std.proofs.lemmas.List.Elements.{recursion_from_All}
 use Rattle.std.proofs.lemmas.Option.{cond_some}
 use Rattle.std.proofs.lemmas.Slice.Eq.{bytes_eq-Decides, starts_is}
 use Rattle.hex.specs.Hex.{lower_digits}
 use Rattle.hex.proofs.HexLemmas.{length-encode_with}
+use Rattle.exh_csv.specs.declared.place.Place.{Place}
+use Rattle.exh_csv.specs.declared.place.Place.TheVariants.{Start, Quoted}
+use Rattle.exh_csv.specs.Laws.{FieldsAreRead, RecordsAreWhole}
+use Rattle.exh_csv.specs.Places.{AreQuoted, place_behind}
 use Rattle.exh_text.specs.ByteWord.{bytes_of_word}
 use Rattle.exh_text.specs.Numbers.{after_prefix, index_spelled, number_up_to}
 use Rattle.exh_text.specs.TextLemmas.{decimal_graphic, number_alone, printed_again}
@@ -23,12 +27,14 @@ use Rattle.exh_pair_text.specs.declared.pair_format.PairFormat.TheVariants as wh
 use Rattle.exh_pair_text.specs.declared.separated.Separated.{Separated}
 use Rattle.exh_pair_text.specs.declared.separated.Separated.TheVariants.{Words, Tsv}
 use Rattle.exh_pair_text.specs.Formats.{format_named, separator, tab}
-use Rattle.exh_pair_text.specs.Laws.{AreBytes, IsPair, PairsAreOneLine, PairsAreRead}
-use Rattle.exh_pair_text.specs.Json.{in_digits, json_words}
+use Rattle.exh_pair_text.specs.Laws.{IsPair, PairsAreOneLine, PairsAreRead}
+use Rattle.exh_pair_text.specs.Csv.{csv_words}
+use Rattle.exh_pair_text.specs.Json.{in_digits, json_words, string_by}
 use Rattle.exh_pair_text.specs.Lines.{end_words, field_text, json_end_words, json_opening, opening_words, separated_words}
-use Rattle.exh_pair_text.specs.Reading.{before_end, cut_at, end_in, json_end_in, line_read, opening_in, pair_in, separated_pair}
+use Rattle.exh_pair_text.specs.Reading.{before_end, cut_at, end_in, json_end_in, line_read, opening_in, pair_in, separated_pair, text_read}
 use Rattle.exh_pair_text.proofs.Again.{field_again, field_other, graphic_other}
 use Rattle.exh_pair_text.proofs.Cases.{key_kept, value_kept}
+use Rattle.exh_pair_text.proofs.CsvAgain.{Begins, csv_again, csv_begins, csv_kept, csv_some, string_some}
 use Rattle.exh_pair_text.proofs.Cuts.{cut_behind, cut_nowhere, cut_parts}
 use Rattle.exh_pair_text.proofs.JsonAgain.{json_again}
 use Rattle.exh_pair_text.proofs.JsonText.{begins_so, words_other}
@@ -98,8 +104,9 @@ eq_tells : {A : Type 0} (b : Bool) (x y : A) → Decides b (x ≡ y) → (x ≡ 
 eq_tells true x y decides = inl (decides.0 refl)
 eq_tells false x y decides = inr (refl, λ same. absurd (false≢true (decides.1 same)))
 
-unnamed : (word : List ℕ) (format : PairFormat) → bytes_eq word (codes "words") ≡ false → bytes_eq word (codes "tsv") ≡ false → bytes_eq word (codes "jsonl") ≡ false → format_named word ≡ Some format → ⊥
-unnamed word format words tsv jsonl is = let none : None ≡ Some format = rw (words, tsv, jsonl) at is in cc
+unnamed : (word : List ℕ) (format : PairFormat) → bytes_eq word (codes "words") ≡ false → bytes_eq word (codes "tsv") ≡ false → bytes_eq word (codes "jsonl") ≡ false → bytes_eq word (codes "csv") ≡ false
+    → format_named word ≡ Some format → ⊥
+unnamed word format words tsv jsonl csv is = let none : None ≡ Some format = rw (words, tsv, jsonl, csv) at is in cc
 
 named : (word : List ℕ) (format : PairFormat) → format_named word ≡ Some format → cut_at tab (opening_words ++ word) ≡ None
 unfolding cut_at
@@ -109,7 +116,10 @@ named word format is = elim (eq_tells (bytes_eq word (codes "words")) word (code
     | inl tsv ↦ rw tsv refl
     | inr neither ↦ elim (eq_tells (bytes_eq word (codes "jsonl")) word (codes "jsonl") (bytes_eq-Decides word (codes "jsonl"))) [
       | inl jsonl ↦ rw jsonl refl
-      | inr none ↦ absurd (unnamed word format other.0 neither.0 none.0 is)
+      | inr last ↦ elim (eq_tells (bytes_eq word (codes "csv")) word (codes "csv") (bytes_eq-Decides word (codes "csv"))) [
+        | inl csv ↦ rw csv refl
+        | inr none ↦ absurd (unnamed word format other.0 neither.0 last.0 none.0 is)
+      ]
     ]
   ]
 ]
@@ -223,8 +233,8 @@ pair_again format hex key value pair =
       value_kept value pair.value_limit,
     ) refl
 
-line_by : (format : PairFormat) (hex : Bool) (line : List ℕ) (pair : List ℕ × List ℕ) → opening_in line ≡ None → end_in line ≡ None → pair_in format hex line ≡ Ok pair → (line ≡ [] → ⊥) → line_read format hex line ≡ Pair pair.0 pair.1
-unfolding line_read
+line_by : (format : PairFormat) (hex : Bool) (line : List ℕ) (pair : List ℕ × List ℕ) → opening_in line ≡ None → end_in line ≡ None → pair_in format hex line ≡ Ok pair → (line ≡ [] → ⊥) → text_read format hex line ≡ Pair pair.0 pair.1
+unfolding text_read
 line_by format hex [] pair opening end is some = absurd (some refl)
 line_by format hex (byte ∷ line) pair opening end is some = rw (opening, end, is) refl
 
@@ -247,31 +257,100 @@ object_read hex key value pair =
     (λ is. omega (arith, ap length is, ap length begins.1))
 
 words_read : (format : PairFormat) (apart : Separated) (hex : Bool) (key value : List ℕ) → IsPair key value → pair_in format hex (separated_words apart hex key value) ≡ separated_pair apart hex (separated_words apart hex key value)
-    → line_read format hex (separated_words apart hex key value) ≡ Pair key value
+    → text_read format hex (separated_words apart hex key value) ≡ Pair key value
 words_read format apart hex key value pair same =
     let keys = recursion_from_All _ key pair.key_bytes in
     line_by format hex (separated_words apart hex key value) (key, value) (no_opening apart hex key value keys pair.some) (no_end apart hex key value keys pair.some)
     (same ∙ pair_again apart hex key value pair) (not_empty apart hex key value)
 
-pub pairs_are_read : PairsAreRead
-pairs_are_read whole.Words hex key value pair = words_read whole.Words Words hex key value pair refl
-pairs_are_read whole.Tsv hex key value pair = words_read whole.Tsv Tsv hex key value pair refl
-pairs_are_read whole.Jsonl hex key value pair = object_read hex key value pair
+-- a record is no mark: it begins with a quote, or with another byte than `#` and no quote behind it
+quoted_opening : (rest : List ℕ) → opening_in (34 ∷ rest) ≡ None
+unfolding opening_in
+quoted_opening rest = refl
 
-newline_other : (format : Separated) (hex : Bool) (bytes : List ℕ) → AreBytes bytes → All (λ byte. byte ≢ newline) (field_text format hex bytes)
-newline_other Words hex bytes all = All-from_recursion _ _ (field_other Words hex newline bytes (omega arith) (recursion_from_All _ bytes all))
-newline_other Tsv hex bytes all = All-from_recursion _ _ (field_other Tsv hex newline bytes (omega arith) (recursion_from_All _ bytes all))
+quoted_end : (rest : List ℕ) → end_in (34 ∷ rest) ≡ None
+unfolding end_in json_end_in
+quoted_end rest = refl
 
-separator_other : (format : Separated) → separator format ≢ newline
-separator_other Words is = omega arith
-separator_other Tsv is = omega arith
+abbrev first_byte_of : List ℕ → ℕ
+first_byte_of line = get_or line 0 0
 
-words_one_line : (format : Separated) (hex : Bool) (key value : List ℕ) → IsPair key value → All (λ byte. byte ≢ newline) (separated_words format hex key value)
-words_one_line format hex key value pair =
-    All-append (λ byte. byte ≢ newline) (field_text format hex key) (separator format ∷ field_text format hex value) (newline_other format hex key pair.key_bytes)
-    (All-cons (λ byte. byte ≢ newline) (separator format) (field_text format hex value) (separator_other format) (newline_other format hex value pair.value_bytes))
+abbrev second_byte_of : List ℕ → ℕ
+second_byte_of line = get_or line 1 0
 
-pub pairs_are_one_line : PairsAreOneLine
-pairs_are_one_line whole.Words hex key value pair = words_one_line Words hex key value pair
-pairs_are_one_line whole.Tsv hex key value pair = words_one_line Tsv hex key value pair
-pairs_are_one_line whole.Jsonl hex key value pair = All-from_recursion _ _ (words_other (in_digits hex key) (in_digits hex value) key value)
+plain_opening : (line : List ℕ) → first_byte_of line ≢ 35 → second_byte_of line ≢ 34 → opening_in line ≡ None
+unfolding opening_in
+plain_opening line first second = elim (eq_tells (bytes_eq line json_opening) line json_opening (bytes_eq-Decides line json_opening)) [
+  | inl same ↦ absurd (second (ap second_byte_of same))
+  | inr other ↦
+      let none : option_and_then format_named (after_prefix opening_words line) ≡ None = none_from _ (λ named is.
+      let found = some_behind format_named (after_prefix opening_words line) named is in
+      absurd (first (ap first_byte_of (prefixed opening_words line found.0 found.1)))) in
+      rw (other.0, none) refl
+]
+
+plain_end : (line : List ℕ) → first_byte_of line ≢ 35 → second_byte_of line ≢ 34 → end_in line ≡ None
+unfolding end_in json_end_in
+plain_end line first second =
+    let words : option_and_then index_spelled (after_prefix end_words line) ≡ None = none_from _ (λ count is.
+    let found = some_behind index_spelled (after_prefix end_words line) count is in
+    absurd (first (ap first_byte_of (prefixed end_words line found.0 found.1)))) in
+    let json : json_end_in line ≡ None = none_from _ (λ count is.
+    let text = some_behind (λ text. option_and_then index_spelled (before_end (cut_at 125 text))) (after_prefix json_end_words line) count is in
+    absurd (second (ap second_byte_of (prefixed json_end_words line text.0 text.1)))) in
+    rw (words, json) refl
+
+begun_opening : (line : List ℕ) → Begins line → opening_in line ≡ None
+begun_opening line (inl (rest, is)) = ap opening_in is ∙ quoted_opening rest
+begun_opening line (inr (first, second)) = plain_opening line first second
+
+begun_end : (line : List ℕ) → Begins line → end_in line ≡ None
+begun_end line (inl (rest, is)) = ap end_in is ∙ quoted_end rest
+begun_end line (inr (first, second)) = plain_end line first second
+
+record_read : FieldsAreRead → (hex : Bool) (key value : List ℕ) → IsPair key value → line_read whole.Csv hex (csv_words hex key value) ≡ Pair key value
+record_read law hex key value pair =
+    let some = string_some hex key pair.some in
+    let begins = csv_begins hex key value some in
+    ap (text_read whole.Csv hex) (csv_kept hex key value)
+    ∙ line_by whole.Csv hex (csv_words hex key value) (key, value) (begun_opening (csv_words hex key value) begins) (begun_end (csv_words hex key value) begins) (csv_again law hex key value pair) (csv_some hex key value some)
+
+pub pairs_are_read : FieldsAreRead → PairsAreRead
+pairs_are_read law whole.Words hex key value pair = words_read whole.Words Words hex key value pair refl
+pairs_are_read law whole.Tsv hex key value pair = words_read whole.Tsv Tsv hex key value pair refl
+pairs_are_read law whole.Jsonl hex key value pair = object_read hex key value pair
+pairs_are_read law whole.Csv hex key value pair = record_read law hex key value pair
+
+parted_other : (front : List ℕ) (byte : ℕ) (rest : List ℕ) → AllByRecursion (λ b. b ≢ newline) front → byte ≢ newline → AllByRecursion (λ b. b ≢ newline) rest → AllByRecursion (λ b. b ≢ newline) (front ++ byte ∷ rest)
+parted_other [] byte rest before is all = (is, all)
+parted_other (first ∷ front) byte rest before is all = (before.0, parted_other front byte rest before.1 is all)
+
+words_one_line : (format : Separated) (hex : Bool) (key value : List ℕ) → IsPair key value → AllByRecursion (λ byte. byte ≢ newline) (separated_words format hex key value)
+words_one_line Words hex key value pair =
+    parted_other (field_text Words hex key) 32 (field_text Words hex value) (field_other Words hex newline key (omega arith) (recursion_from_All _ key pair.key_bytes)) (λ is. absurd (omega arith))
+    (field_other Words hex newline value (omega arith) (recursion_from_All _ value pair.value_bytes))
+words_one_line Tsv hex key value pair =
+    parted_other (field_text Tsv hex key) 9 (field_text Tsv hex value) (field_other Tsv hex newline key (omega arith) (recursion_from_All _ key pair.key_bytes)) (λ is. absurd (omega arith))
+    (field_other Tsv hex newline value (omega arith) (recursion_from_All _ value pair.value_bytes))
+
+-- ---- one line
+
+one_line : (line : List ℕ) → AllByRecursion (λ byte. byte ≢ newline) line → AreQuoted (λ place byte. Start) Start line
+one_line [] all = tt
+one_line (byte ∷ line) all = (λ is. absurd (all.0 is), one_line line all.1)
+
+always_start : (line : List ℕ) → place_behind (λ place byte. Start) Start line ≡ Start
+always_start [] = refl
+always_start (byte ∷ line) = always_start line
+
+start_open : Start ≡ Quoted → ⊥
+start_open is = cc
+
+plain_line : (line : List ℕ) → AllByRecursion (λ byte. byte ≢ newline) line → AreQuoted (λ place byte. Start) Start line × (place_behind (λ place byte. Start) Start line ≢ Quoted)
+plain_line line all = (one_line line all, λ is. start_open (sym (always_start line) ∙ is))
+
+pub pairs_are_one_line : RecordsAreWhole → PairsAreOneLine
+pairs_are_one_line law whole.Words hex key value pair = plain_line (separated_words Words hex key value) (words_one_line Words hex key value pair)
+pairs_are_one_line law whole.Tsv hex key value pair = plain_line (separated_words Tsv hex key value) (words_one_line Tsv hex key value pair)
+pairs_are_one_line law whole.Jsonl hex key value pair = plain_line (json_words hex key value) (words_other (in_digits hex key) (in_digits hex value) key value)
+pairs_are_one_line law whole.Csv hex key value pair = law (string_by hex key) (string_by hex value ∷ [])

@@ -1,12 +1,12 @@
 -- What holds of each pair that is written.
-use Rattle.std.specs.Prelude.{◌≡◌, ◌≢◌, ◌<◌, ◌≤◌, ℕ, List, length, Bool, All}
+use Rattle.std.specs.Prelude.{◌≡◌, ◌<◌, ◌≤◌, ℕ, List, length, Bool, All}
 use Rattle.exh_page.specs.declared.key.TheConstants.{KEY_LIMIT}
 use Rattle.exh_page.specs.declared.value.TheConstants.{VALUE_LIMIT}
-use Rattle.exh_text.specs.TextLines.{newline}
 use Rattle.exh_pair_text.specs.declared.line.Line.TheVariants.{Pair}
 use Rattle.exh_pair_text.specs.declared.pair_format.PairFormat.{PairFormat}
 use Rattle.exh_pair_text.specs.Lines.{pair_words}
 use Rattle.exh_pair_text.specs.Reading.{line_read}
+use Rattle.exh_pair_text.specs.Records.{IsEnded, IsOneLine}
 
 abbrev pub AreBytes : List ℕ → Type 0
 AreBytes bytes = All (λ byte. byte < 256) bytes
@@ -23,6 +23,6 @@ pub record IsPair (key value : List ℕ) : Type 0 where
 abbrev pub PairsAreRead : Type 0
 PairsAreRead = (format : PairFormat) (hex : Bool) (key value : List ℕ) → IsPair key value → line_read format hex (pair_words format hex key value) ≡ Pair key value
 
--- no newline stands in it
+-- with a newline behind it, it is one line
 abbrev pub PairsAreOneLine : Type 0
-PairsAreOneLine = (format : PairFormat) (hex : Bool) (key value : List ℕ) → IsPair key value → All (λ byte. byte ≢ newline) (pair_words format hex key value)
+PairsAreOneLine = (format : PairFormat) (hex : Bool) (key value : List ℕ) → IsPair key value → IsOneLine format (pair_words format hex key value) × IsEnded format (pair_words format hex key value)

@@ -2,8 +2,10 @@
 pub mod Formats
 pub mod Bytes
 pub mod Json
+pub mod Csv
 pub mod Lines
 pub mod Reading
+pub mod Records
 pub mod Spelled
 pub mod Reads
 pub mod Laws

@@ -4,11 +4,12 @@ use Rattle.hex.specs.Hex.{encode_lower}
 use Rattle.exh_text.specs.Contents.{on_line}
 use Rattle.exh_text.specs.Printing.{printed}
 use Rattle.exh_pair_text.specs.declared.pair_format.PairFormat.{PairFormat}
-use Rattle.exh_pair_text.specs.declared.pair_format.PairFormat.TheVariants.{Words, Tsv, Jsonl}
+use Rattle.exh_pair_text.specs.declared.pair_format.PairFormat.TheVariants.{Words, Tsv, Jsonl, Csv}
 use Rattle.exh_pair_text.specs.declared.separated.Separated.{Separated}
 use Rattle.exh_pair_text.specs.declared.separated.Separated.TheVariants as apart
 use Rattle.exh_pair_text.specs.Bytes.{byte_text}
 use Rattle.exh_pair_text.specs.Formats.{format_name, separator}
+use Rattle.exh_pair_text.specs.Csv.{csv_words}
 use Rattle.exh_pair_text.specs.Json.{json_words}
 
 -- a key or a value beside a separating byte
@@ -25,6 +26,7 @@ abbrev pub pair_words : PairFormat → Bool → List ℕ → List ℕ → List �
 pair_words Words hex key value = separated_words apart.Words hex key value
 pair_words Tsv hex key value = separated_words apart.Tsv hex key value
 pair_words Jsonl hex key value = json_words hex key value
+pair_words Csv hex key value = csv_words hex key value
 
 abbrev pub pair_line : PairFormat → Bool → List ℕ → List ℕ → List ℕ
 pair_line format hex key value = on_line (pair_words format hex key value)
@@ -46,6 +48,7 @@ abbrev pub opening_text : PairFormat → List ℕ
 opening_text Words = opening_words ++ format_name Words
 opening_text Tsv = opening_words ++ format_name Tsv
 opening_text Jsonl = json_opening
+opening_text Csv = opening_words ++ format_name Csv
 
 abbrev pub opening_line : PairFormat → List ℕ
 opening_line format = on_line (opening_text format)
@@ -55,11 +58,13 @@ abbrev pub end_before : PairFormat → List ℕ
 end_before Words = end_words
 end_before Tsv = end_words
 end_before Jsonl = json_end_words
+end_before Csv = end_words
 
 abbrev pub end_behind : PairFormat → List ℕ
 end_behind Words = codes "\n"
 end_behind Tsv = codes "\n"
 end_behind Jsonl = codes "}\n"
+end_behind Csv = codes "\n"
 
 abbrev pub end_line : PairFormat → ℕ → List ℕ
 end_line format count = end_before format ++ (decimal count ++ end_behind format)

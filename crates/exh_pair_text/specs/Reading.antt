@@ -1,5 +1,5 @@
 -- What a line of a text of pairs reads as.
-use Rattle.std.specs.Prelude.{ℕ, zero, suc, ◌+◌, ◌-◌, ◌==◌, List, [], ◌∷◌, length, nat_le, Bool, true, false, if◌then◌else◌, Option, Some, None, Result, Ok, Err}
+use Rattle.std.specs.Prelude.{ℕ, zero, suc, ◌+◌, ◌-◌, ◌==◌, List, [], ◌∷◌, length, get_or, take, nat_le, Bool, true, false, if◌then◌else◌, Option, Some, None, Result, Ok, Err}
 use Rattle.std.specs.Str.{bytes_eq, is_utf8}
 use Rattle.std.specs.Option.{option_and_then, option_map}
 use Rattle.json.specs.Find.{as_str, get}
@@ -13,12 +13,14 @@ use Rattle.exh_pair_text.specs.declared.field.Field.TheVariants.{Key, Value}
 use Rattle.exh_pair_text.specs.declared.line.Line.{Line}
 use Rattle.exh_pair_text.specs.declared.line.Line.TheVariants.{Pair, Opening, End, Empty, Wrong}
 use Rattle.exh_pair_text.specs.declared.pair_format.PairFormat.{PairFormat}
-use Rattle.exh_pair_text.specs.declared.pair_format.PairFormat.TheVariants.{Words, Tsv, Jsonl}
+use Rattle.exh_pair_text.specs.declared.pair_format.PairFormat.TheVariants.{Words, Tsv, Jsonl, Csv}
 use Rattle.exh_pair_text.specs.declared.separated.Separated.{Separated}
 use Rattle.exh_pair_text.specs.declared.separated.Separated.TheVariants as apart
 use Rattle.exh_pair_text.specs.declared.wrong_line.WrongLine.{WrongLine}
-use Rattle.exh_pair_text.specs.declared.wrong_line.WrongLine.TheVariants.{NoValue, EmptyKey, LongKey, LongValue, NoWord, NoDigits, NoEscape, SecondTab, NoJson, NoField, NoString, NoHex, TwoFields}
-use Rattle.exh_pair_text.specs.Bytes.{first_byte}
+use Rattle.exh_pair_text.specs.declared.wrong_line.WrongLine.TheVariants.{NoValue, EmptyKey, LongKey, LongValue, NoWord, NoDigits, NoEscape, SecondTab, NoJson, NoField, NoString, NoHex, TwoFields, NoRecord, Fields}
+use Rattle.exh_csv.specs.Fields.{fields_in}
+use Rattle.exh_csv.specs.declared.wrong_record.WrongRecord.{WrongRecord}
+use Rattle.exh_pair_text.specs.Bytes.{first_byte, return}
 use Rattle.exh_pair_text.specs.Formats.{format_named, separator, tab}
 use Rattle.exh_pair_text.specs.Json.{digits_name, plain_name}
 use Rattle.exh_pair_text.specs.Lines.{end_words, json_end_words, json_opening, opening_words}
@@ -125,6 +127,32 @@ object_pair hex json = do
 unfoldable pub json_pair : Bool → List ℕ → Result (List ℕ × List ℕ) WrongLine
 json_pair hex line = or_wrong NoJson (json_in line) >>= object_pair hex
 
+-- ---- comma-separated fields
+
+abbrev pub or_no_record : {A : Type 0} → Result A WrongRecord → Result A WrongLine
+or_no_record (Ok found) = Ok found
+or_no_record (Err wrong) = Err (NoRecord wrong)
+
+abbrev pub two_fields : List (List ℕ) → Result (List ℕ × List ℕ) WrongLine
+two_fields (key ∷ value ∷ []) = Ok (key, value)
+two_fields fields = Err (Fields (length fields))
+
+-- the bytes of a field, or those that its hexadecimal digits spell
+abbrev pub csv_bytes : Field → Bool → List ℕ → Result (List ℕ) WrongLine
+csv_bytes field true digits = hex_bytes field digits
+csv_bytes field false bytes = Ok bytes
+
+unfoldable pub fields_pair : Bool → List (List ℕ) → Result (List ℕ × List ℕ) WrongLine
+fields_pair hex fields = do
+  two ← two_fields fields
+  key ← csv_bytes Key hex two.0 >>= key_of_bytes
+  value ← csv_bytes Value hex two.1 >>= value_of_bytes
+  Ok (key, value)
+
+-- the pair of a record of two fields
+unfoldable pub csv_pair : Bool → List ℕ → Result (List ℕ × List ℕ) WrongLine
+csv_pair hex line = or_no_record (fields_in line) >>= fields_pair hex
+
 -- ---- lines
 
 -- the pair of a line
@@ -132,6 +160,7 @@ abbrev pub pair_in : PairFormat → Bool → List ℕ → Result (List ℕ × Li
 pair_in Words hex line = separated_pair apart.Words hex line
 pair_in Tsv hex line = separated_pair apart.Tsv hex line
 pair_in Jsonl hex line = json_pair hex line
+pair_in Csv hex line = csv_pair hex line
 
 abbrev pub pair_or_wrong : Result (List ℕ × List ℕ) WrongLine → Line
 pair_or_wrong (Ok pair) = Pair pair.0 pair.1
@@ -162,6 +191,20 @@ unmarked (Some format) count line = Opening format
 unmarked None (Some count) line = End count
 unmarked None None line = line
 
-unfoldable pub line_read : PairFormat → Bool → List ℕ → Line
-line_read format hex [] = Empty
-line_read format hex (byte ∷ line) = unmarked (opening_in (byte ∷ line)) (end_in (byte ∷ line)) (pair_or_wrong (pair_in format hex (byte ∷ line)))
+unfoldable pub text_read : PairFormat → Bool → List ℕ → Line
+text_read format hex [] = Empty
+text_read format hex (byte ∷ line) = unmarked (opening_in (byte ∷ line)) (end_in (byte ∷ line)) (pair_or_wrong (pair_in format hex (byte ∷ line)))
+
+-- a line that ends with a carriage return, without it
+unfoldable pub without_return : List ℕ → List ℕ
+without_return line = if get_or line (length line - 1) 0 == return then take (length line - 1) line else line
+
+-- lines of comma-separated fields end with a carriage return and a newline, or with a newline alone
+abbrev pub own_text : PairFormat → List ℕ → List ℕ
+own_text Words line = line
+own_text Tsv line = line
+own_text Jsonl line = line
+own_text Csv line = without_return line
+
+abbrev pub line_read : PairFormat → Bool → List ℕ → Line
+line_read format hex line = text_read format hex (own_text format line)

@@ -2,7 +2,7 @@
 #![tactic(auto)]
 
 pub use field::Field;
-pub use laws::{no_newline_is_in_pairs, pairs_are_read};
+pub use laws::{pairs_are_one_line, pairs_are_read};
 pub use line::Line;
 pub use pair_format::PairFormat;
 pub use reading::line_of;
@@ -10,6 +10,7 @@ pub use writing::{push_end, push_opening, push_pair};
 pub use wrong_line::WrongLine;
 
 mod byte_text;
+mod csv_reading;
 mod field;
 mod json_object;
 mod json_reading;

@@ -1,6 +1,9 @@
 ghost use Rattle.std.specs.Prelude.{◌≡◌};
 ghost use Rattle.exh_pair_text.specs.Formats.{format_name, format_named};
 ghost use Rattle.exh_pair_text.specs.Lines.{end_before, end_behind, opening_text};
+ghost use Rattle.exh_pair_text.specs.Records.{place_by};
+
+use exh_csv::Place;
 
 /// How a text has its pairs.
 #[derive(Clone, Copy, Debug, PartialEq, Eq)]
@@ -11,6 +14,8 @@ pub enum PairFormat {
     Tsv,
     /// A JSON object with the fields `key` and `value`, or `key_hex` and `value_hex`.
     Jsonl,
+    /// KEY, a comma, VALUE, each in quotes where it has to be.
+    Csv,
 }
 
 impl PairFormat {
@@ -22,6 +27,7 @@ impl PairFormat {
             b"words" => Some(PairFormat::Words),
             b"tsv" => Some(PairFormat::Tsv),
             b"jsonl" => Some(PairFormat::Jsonl),
+            b"csv" => Some(PairFormat::Csv),
             _ => None,
         }
     }
@@ -34,6 +40,18 @@ impl PairFormat {
             PairFormat::Words => "words",
             PairFormat::Tsv => "tsv",
             PairFormat::Jsonl => "jsonl",
+            PairFormat::Csv => "csv",
+        }
+    }
+
+    /// The place behind a byte of a line, which begins at `Place::Start`. A newline at `Place::Quoted` is a byte of the line,
+    /// and at any other place it ends the line.
+    pub fn place_after(self, place: Place, byte: u8) -> Place
+        ensures { result ≡ place_by self place byte }
+    {
+        match self {
+            PairFormat::Csv => place.after(byte),
+            PairFormat::Words | PairFormat::Tsv | PairFormat::Jsonl => Place::Start,
         }
     }
 
@@ -45,6 +63,7 @@ impl PairFormat {
             PairFormat::Words => "# exhash export words",
             PairFormat::Tsv => "# exhash export tsv",
             PairFormat::Jsonl => "{\"exhash\":\"export\",\"format\":\"jsonl\"}",
+            PairFormat::Csv => "# exhash export csv",
         }
     }
 
@@ -53,7 +72,7 @@ impl PairFormat {
         ensures { result.now ≡ end_before self }
     {
         match self {
-            PairFormat::Words | PairFormat::Tsv => "# exhash end ",
+            PairFormat::Words | PairFormat::Tsv | PairFormat::Csv => "# exhash end ",
             PairFormat::Jsonl => "{\"exhash\":\"end\",\"pairs\":",
         }
     }
@@ -63,7 +82,7 @@ impl PairFormat {
         ensures { result.now ≡ end_behind self }
     {
         match self {
-            PairFormat::Words | PairFormat::Tsv => "\n",
+            PairFormat::Words | PairFormat::Tsv | PairFormat::Csv => "\n",
             PairFormat::Jsonl => "}\n",
         }
     }

@@ -4,9 +4,10 @@ ghost use Rattle.std.specs.Option.{option_and_then};
 ghost use Rattle.exh_text.specs.Numbers.{after_prefix, index_spelled};
 ghost use Rattle.exh_pair_text.specs.Lines.{end_words, opening_words};
 ghost use Rattle.exh_pair_text.specs.Formats.{format_named};
-ghost use Rattle.exh_pair_text.specs.Reading.{cut_at, end_in, json_end_in, line_read, opening_in, pair_in, pair_or_wrong, separated_pair};
+ghost use Rattle.exh_pair_text.specs.Reading.{cut_at, end_in, json_end_in, line_read, opening_in, own_text, pair_in, pair_or_wrong, separated_pair, text_read};
 ghost use Rattle.exh_pair_text.specs.Reads.{cut_lists};
 
+use crate::csv_reading::csv_pair;
 use crate::json_reading::json_pair;
 use crate::separated::Separated;
 use crate::spelled::Spelled;
@@ -19,8 +20,7 @@ use std::alloc::{AllocError, Global};
 const JSON_OPENING: &str = "{\"exhash\":\"export\",\"format\":\"jsonl\"}";
 
 /// What a line without its newline reads as, where keys and values are written in this format, or in hexadecimal digits. An
-/// opening or an end is one whatever the format. An `Err`, which comes of JSON alone: out of memory.
-#[tactic(auto, unfolding(crate::specs::Reading::line_read))]
+/// opening or an end is one whatever the format. An `Err`, which comes of `jsonl` and `csv` alone: out of memory.
 pub fn line_of(
     alloc: Global,
     format: PairFormat,
@@ -28,6 +28,19 @@ pub fn line_of(
     line: &[u8],
 ) -> Result<Line, AllocError>
     ensures { IfOk result (λ read. read ≡ line_read format is_hex line.now) }
+{
+    text_of(alloc, format, is_hex, own_text(format, line))
+}
+
+// What a line reads as without what stands before its newline for some programs alone.
+#[tactic(auto, unfolding(crate::specs::Reading::text_read))]
+fn text_of(
+    alloc: Global,
+    format: PairFormat,
+    is_hex: bool,
+    line: &[u8],
+) -> Result<Line, AllocError>
+    ensures { IfOk result (λ read. read ≡ text_read format is_hex line.now) }
 {
     if line.is_empty() {
         return Ok(Line::Empty);
@@ -39,6 +52,17 @@ pub fn line_of(
         return Ok(Line::End(count));
     }
     Ok(pair_or_wrong(pair_in(alloc, format, is_hex, line)?))
+}
+
+// Of comma-separated fields the line without a carriage return at its end.
+#[tactic(auto, unfolding(crate::specs::Reading::without_return))]
+fn own_text(format: PairFormat, line: &[u8]) -> &[u8]
+    ensures { result.now ≡ own_text format line.now }
+{
+    match (format, line) {
+        (PairFormat::Csv, [text @ .., b'\r']) => text,
+        _ => line,
+    }
 }
 
 // A pair, or why there is none.
@@ -113,6 +137,7 @@ fn pair_in(
         PairFormat::Words => Ok(separated_pair(Separated::Words, is_hex, line)),
         PairFormat::Tsv => Ok(separated_pair(Separated::Tsv, is_hex, line)),
         PairFormat::Jsonl => json_pair(alloc, is_hex, line),
+        PairFormat::Csv => csv_pair(alloc, is_hex, line),
     }
 }
 

@@ -1,12 +1,16 @@
 //! How pairs are written, one a line, and what an export begins and ends with.
 ghost use Rattle.std.specs.Prelude.{◌≡◌, ◌++◌, OnOk, decimal, flat_map};
 ghost use Rattle.exh_text.specs.Printing.{Keeps};
+ghost use Rattle.exh_csv.specs.Rows.{field_words};
 ghost use Rattle.exh_pair_text.specs.Bytes.{byte_text};
+ghost use Rattle.exh_pair_text.specs.Csv.{csv_words};
+ghost use Rattle.exh_pair_text.specs.Json.{string_by};
 ghost use Rattle.exh_pair_text.specs.Lines.{end_line, field_text, opening_line, pair_line, separated_words};
 
 use crate::PairFormat;
 use crate::byte_text::{push_byte, push_digits};
 use crate::json_object::push_object;
+use exh_csv::push_field as push_csv_field;
 use crate::separated::Separated;
 use exh_text::{push_number, push_text, push_value};
 use std::alloc::AllocError;
@@ -26,6 +30,7 @@ pub fn push_pair(
         PairFormat::Words => push_separated(text, Separated::Words, is_hex, key, value)?,
         PairFormat::Tsv => push_separated(text, Separated::Tsv, is_hex, key, value)?,
         PairFormat::Jsonl => push_object(text, is_hex, key, value)?,
+        PairFormat::Csv => push_record(text, is_hex, key, value)?,
     }
     push_text(text, "\n")
 }
@@ -101,4 +106,31 @@ fn push_escaped(text: &mut Vec<u8>, bytes: &[u8]) -> Result<(), AllocError>
         push_byte(text, *byte)?;
     }
     Ok(())
+}
+
+// Adds a record of two fields.
+fn push_record(
+    text: &mut Vec<u8>,
+    is_hex: bool,
+    key: &[u8],
+    value: &[u8],
+) -> Result<(), AllocError>
+    ensures ok { OnOk result (text.new.items ≡ text.old.items ++ csv_words is_hex key.now value.now) }
+    ensures kept { Keeps text.old.items text.new.items }
+{
+    push_csv(text, is_hex, key)?;
+    push_text(text, ",")?;
+    push_csv(text, is_hex, value)
+}
+
+// Adds a field: of the bytes, or of their hexadecimal digits, which need no quotes.
+fn push_csv(text: &mut Vec<u8>, is_hex: bool, bytes: &[u8]) -> Result<(), AllocError>
+    ensures ok { OnOk result (text.new.items ≡ text.old.items ++ field_words (string_by is_hex bytes.now)) }
+    ensures kept { Keeps text.old.items text.new.items }
+{
+    if !is_hex {
+        return push_csv_field(text, bytes);
+    }
+    let digits = hex::encode(*text.allocator(), bytes)?;
+    push_csv_field(text, digits.as_bytes())
 }

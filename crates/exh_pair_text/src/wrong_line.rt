@@ -1,4 +1,5 @@
 use crate::Field;
+use exh_csv::WrongRecord;
 use thiserror::Error;
 
 /// Why a line is no pair. Its text is a sentence without a full stop. Bytes of a line are counted from 1 on.
@@ -44,4 +45,10 @@ pub enum WrongLine {
     /// The object has both fields.
     #[error("it has both fields {0} and {0}_hex")]
     TwoFields(Field),
+    /// The line is no record of comma-separated fields.
+    #[error("{0}")]
+    NoRecord(WrongRecord),
+    /// The record has so many fields, and not two.
+    #[error("2 fields are wanted, and it has {count}")]
+    Fields { count: usize },
 }
