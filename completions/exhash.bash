@@ -20,7 +20,7 @@ _exhash() {
             case $last in
                 --cap | --wards | --wait) return ;;
                 --format)
-                    mapfile -t COMPREPLY < <(compgen -W 'words tsv jsonl' -- "$word")
+                    mapfile -t COMPREPLY < <(compgen -W 'words tsv jsonl csv' -- "$word")
                     return
                     ;;
                 --keyer)
@@ -35,7 +35,7 @@ _exhash() {
             case $last in
                 --wait) return ;;
                 --format)
-                    mapfile -t COMPREPLY < <(compgen -W 'words tsv jsonl' -- "$word")
+                    mapfile -t COMPREPLY < <(compgen -W 'words tsv jsonl csv' -- "$word")
                     return
                     ;;
             esac

@@ -384,7 +384,7 @@ fn format<'a>(alloc: Global) -> Arg<'a> {
     option(
         alloc,
         FORMAT,
-        "words|tsv|jsonl",
+        "words|tsv|jsonl|csv",
         "How pairs are written [default: words]",
     )
 }

@@ -4,7 +4,7 @@
 pub const ABOUT: &str = "Prints all pairs as a text that import takes";
 
 /// How it is used.
-pub const USAGE: &str = "exhash export PATH [--format words|tsv|jsonl] [--hex] [--bare]
+pub const USAGE: &str = "exhash export PATH [--format words|tsv|jsonl|csv] [--hex] [--bare]
          [--wait SECONDS]
 
 Words behind `--` are no options, as in export -- --bare.
@@ -28,8 +28,9 @@ with both as `exhash pairs` prints them; of the format `tsv` there is a tab
 between them, and a tab, a newline, a return, a backslash and any other byte
 that isn't printed stand as \\t, \\n, \\r, \\\\ and \\xHH. Of the format `jsonl` it
 is a JSON object with the fields `key` and `value`, or, for bytes that aren't
-UTF-8, `key_hex` and `value_hex`; its first and last lines are objects too. With
---hex both are hexadecimal digits, two a byte.
+UTF-8, `key_hex` and `value_hex`; its first and last lines are objects too. Of
+the format `csv` there is a comma between them, and bytes stand as they are, in
+quotes where they have to. With --hex both are hexadecimal digits, two a byte.
 
 Exit status:
   0  all pairs are printed

@@ -4,7 +4,7 @@
 pub const ABOUT: &str = "Puts the pairs of a text into a page file";
 
 /// How it is used.
-pub const USAGE: &str = "exhash import PATH [--format words|tsv|jsonl] [--hex] [--atomic]
+pub const USAGE: &str = "exhash import PATH [--format words|tsv|jsonl|csv] [--hex] [--atomic]
          [--rejects FILE] [--wait SECONDS]
          [--create [--cap N] [--wards N] [--keyer K]] < PAIRS
 
@@ -29,9 +29,10 @@ with both as `exhash pairs` prints them; of the format `tsv` both stand as they
 are, with a tab between them, where \\t, \\n, \\r, \\\\ and \\xHH are a tab, a
 newline, a return, a backslash and the byte of two hexadecimal digits. Of the
 format `jsonl` it is a JSON object with the fields `key` and `value`; in
-`key_hex` and `value_hex` in their place are hexadecimal digits. With --hex both
-are hexadecimal digits. What `exhash export` prints goes in as it
-was. Where its first line is there and its last is missing, the text was cut:
+`key_hex` and `value_hex` in their place are hexadecimal digits. Of the format
+`csv` it is a record of two fields, without a header: what stands in quotes may
+have commas, newlines and, twice each, quotes. With --hex both are hexadecimal
+digits. What `exhash export` prints goes in as it was. Where its first line is there and its last is missing, the text was cut:
 its last line isn't put in, and with --atomic none is. Empty lines are passed
 over. A line of more than 65536 bytes ends the import.
 Each line that is wrong, and each key that finds no room, is named on standard

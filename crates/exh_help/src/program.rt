@@ -14,15 +14,15 @@ pub const USAGE: &str = "exhash create PATH [--cap N] [--wards N] [--keyer K]
        exhash del PATH --from - [--hex] [--wait SECONDS]
        exhash swap PATH KEY OLD NEW [--hex] [--wait SECONDS]
        exhash backup PATH NEW [--wait SECONDS]
-       exhash import PATH [--format words|tsv|jsonl] [--hex] [--atomic]
+       exhash import PATH [--format words|tsv|jsonl|csv] [--hex] [--atomic]
          [--rejects FILE] [--wait SECONDS]
          [--create [--cap N] [--wards N] [--keyer K]] < PAIRS
-       exhash export PATH [--format words|tsv|jsonl] [--hex] [--bare]
+       exhash export PATH [--format words|tsv|jsonl|csv] [--hex] [--bare]
          [--wait SECONDS]
        exhash compact PATH [--cap N] [--wards N] [--keyer K]
          [--wait SECONDS]
        exhash stats PATH [--json] [--wait SECONDS]
-       exhash salvage PATH [--format words|tsv|jsonl] [--hex] [--bare]
+       exhash salvage PATH [--format words|tsv|jsonl|csv] [--hex] [--bare]
        exhash check PATH
        exhash dump PATH
        exhash pairs PATH [--cap N] [--wards N] [--keyer K]

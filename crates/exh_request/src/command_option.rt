@@ -54,7 +54,7 @@ impl CommandOption {
             CommandOption::Cap => "a number from 1 to 16",
             CommandOption::Wards => "a number from 0 to 4",
             CommandOption::Keyer => "`sha` or `plain`",
-            CommandOption::Format => "`words`, `tsv` or `jsonl`",
+            CommandOption::Format => "`words`, `tsv`, `jsonl` or `csv`",
             CommandOption::Rejects => "the path of a new file, in UTF-8",
             CommandOption::Hex
             | CommandOption::Raw
