@@ -4,7 +4,7 @@
 pub const ABOUT: &str = "Prints the pairs that a damaged file still has";
 
 /// How it is used.
-pub const USAGE: &str = "exhash salvage PATH [--format words|tsv|jsonl] [--hex] [--bare]
+pub const USAGE: &str = "exhash salvage PATH [--format words|tsv|jsonl|csv] [--hex] [--bare]
 
 Examples:
   exhash salvage people.exh > people.text

@@ -12,7 +12,7 @@ use Rattle.exh_csv.specs.Laws.{FieldsAreRead}
 use Rattle.exh_csv.specs.Rows.{doubled, field_words, is_special, needs_quotes, quoted, row_words}
 use Rattle.exh_pair_text.specs.declared.field.Field.{Field}
 use Rattle.exh_pair_text.specs.declared.field.Field.TheVariants.{Key, Value}
-use Rattle.exh_pair_text.specs.Csv.{csv_words}
+use Rattle.exh_pair_text.specs.Lines.{csv_words}
 use Rattle.exh_pair_text.specs.Json.{string_by}
 use Rattle.exh_pair_text.specs.Laws.{AreBytes, IsPair}
 use Rattle.exh_pair_text.specs.Reading.{csv_bytes, csv_pair, fields_pair, without_return}

@@ -28,9 +28,8 @@ use Rattle.exh_pair_text.specs.declared.separated.Separated.{Separated}
 use Rattle.exh_pair_text.specs.declared.separated.Separated.TheVariants.{Words, Tsv}
 use Rattle.exh_pair_text.specs.Formats.{format_named, separator, tab}
 use Rattle.exh_pair_text.specs.Laws.{IsPair, PairsAreOneLine, PairsAreRead}
-use Rattle.exh_pair_text.specs.Csv.{csv_words}
 use Rattle.exh_pair_text.specs.Json.{in_digits, json_words, string_by}
-use Rattle.exh_pair_text.specs.Lines.{end_words, field_text, json_end_words, json_opening, opening_words, separated_words}
+use Rattle.exh_pair_text.specs.Lines.{csv_words, end_words, field_text, json_end_words, json_opening, opening_words, separated_words}
 use Rattle.exh_pair_text.specs.Reading.{before_end, cut_at, end_in, json_end_in, line_read, opening_in, pair_in, separated_pair, text_read}
 use Rattle.exh_pair_text.proofs.Again.{field_again, field_other, graphic_other}
 use Rattle.exh_pair_text.proofs.Cases.{key_kept, value_kept}

@@ -2,7 +2,6 @@
 pub mod Formats
 pub mod Bytes
 pub mod Json
-pub mod Csv
 pub mod Lines
 pub mod Reading
 pub mod Records

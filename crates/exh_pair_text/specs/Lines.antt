@@ -1,16 +1,16 @@
 -- The lines of a text of pairs, as they are written.
-use Rattle.std.specs.Prelude.{ℕ, List, ◌∷◌, ◌++◌, Bool, true, false, codes, decimal, flat_map}
+use Rattle.std.specs.Prelude.{ℕ, List, [], ◌∷◌, ◌++◌, Bool, true, false, codes, decimal, flat_map}
 use Rattle.hex.specs.Hex.{encode_lower}
 use Rattle.exh_text.specs.Contents.{on_line}
 use Rattle.exh_text.specs.Printing.{printed}
+use Rattle.exh_csv.specs.Rows.{row_words}
 use Rattle.exh_pair_text.specs.declared.pair_format.PairFormat.{PairFormat}
 use Rattle.exh_pair_text.specs.declared.pair_format.PairFormat.TheVariants.{Words, Tsv, Jsonl, Csv}
 use Rattle.exh_pair_text.specs.declared.separated.Separated.{Separated}
 use Rattle.exh_pair_text.specs.declared.separated.Separated.TheVariants as apart
 use Rattle.exh_pair_text.specs.Bytes.{byte_text}
 use Rattle.exh_pair_text.specs.Formats.{format_name, separator}
-use Rattle.exh_pair_text.specs.Csv.{csv_words}
-use Rattle.exh_pair_text.specs.Json.{json_words}
+use Rattle.exh_pair_text.specs.Json.{json_words, string_by}
 
 -- a key or a value beside a separating byte
 abbrev pub field_text : Separated → Bool → List ℕ → List ℕ
@@ -20,6 +20,10 @@ field_text apart.Tsv false bytes = flat_map byte_text bytes
 
 abbrev pub separated_words : Separated → Bool → List ℕ → List ℕ → List ℕ
 separated_words format hex key value = field_text format hex key ++ separator format ∷ field_text format hex value
+
+-- a record of two fields, of bytes or of their hexadecimal digits
+abbrev pub csv_words : Bool → List ℕ → List ℕ → List ℕ
+csv_words hex key value = row_words (string_by hex key) (string_by hex value ∷ [])
 
 -- a pair, without the newline and with it
 abbrev pub pair_words : PairFormat → Bool → List ℕ → List ℕ → List ℕ

@@ -1,11 +1,17 @@
 //! Texts of pairs, written by hand from the formats' own words.
 
 use crate::{Field, Line, PairFormat, WrongLine, line_of, push_end, push_opening, push_pair};
+use exh_csv::{Place, WrongRecord};
 use std::alloc::{AllocError, Global};
 use std::fmt::Display;
 use std::test::Fail;
 
-const FORMATS: [PairFormat; 3] = [PairFormat::Words, PairFormat::Tsv, PairFormat::Jsonl];
+const FORMATS: [PairFormat; 4] = [
+    PairFormat::Words,
+    PairFormat::Tsv,
+    PairFormat::Jsonl,
+    PairFormat::Csv,
+];
 
 // A pair's line in a format.
 fn written(
@@ -28,6 +34,18 @@ fn is_pair(read: Line, key: &[u8], value: &[u8]) -> bool {
     }
 }
 
+// Whether no newline ends a line before its end.
+fn is_one_line(format: PairFormat, line: &[u8]) -> bool {
+    let mut place = Place::Start;
+    for byte in line {
+        if *byte == b'\n' && place != Place::Quoted {
+            return false;
+        }
+        place = format.place_after(place, *byte);
+    }
+    place != Place::Quoted
+}
+
 // Whether what is written of a pair is one line that reads as it, in each format.
 fn is_again(alloc: Global, key: &[u8], value: &[u8]) -> Result<bool, AllocError> {
     for format in FORMATS {
@@ -37,7 +55,7 @@ fn is_again(alloc: Global, key: &[u8], value: &[u8]) -> Result<bool, AllocError>
                 return Ok(false);
             };
             let read = line_of(alloc, format, is_hex, line)?;
-            if line.contains(&b'\n') || !is_pair(read, key, value) {
+            if !is_one_line(format, line) || !is_pair(read, key, value) {
                 return Ok(false);
             }
         }
@@ -79,7 +97,7 @@ type Written = (
     &'static [u8],
 );
 
-const LINES: [Written; 14] = [
+const LINES: [Written; 19] = [
     (PairFormat::Words, false, b"ann", b"red", b"ann red\n"),
     (
         PairFormat::Words,
@@ -142,6 +160,17 @@ const LINES: [Written; 14] = [
         b"v",
         b"{\"key_hex\":\"6b\",\"value_hex\":\"76\"}\n",
     ),
+    (PairFormat::Csv, false, b"ann", b"dark blue", b"ann,dark blue\n"),
+    (
+        PairFormat::Csv,
+        false,
+        b"say \"no\"",
+        b"1,2\r\n",
+        b"\"say \"\"no\"\"\",\"1,2\r\n\"\n",
+    ),
+    (PairFormat::Csv, false, b"#", b"", b"\"#\",\n"),
+    (PairFormat::Csv, false, b"\x00", b"\xff\xc3", b"\x00,\xff\xc3\n"),
+    (PairFormat::Csv, true, b"\",", b"", b"222c,\n"),
 ];
 
 #[test]
@@ -153,7 +182,7 @@ fn lines_are_these(rt: HostRuntime) -> Result<(), Fail> {
     Ok(())
 }
 
-const READ: [Written; 9] = [
+const READ: [Written; 15] = [
     (
         PairFormat::Tsv,
         false,
@@ -199,6 +228,12 @@ const READ: [Written; 9] = [
         b"\x00",
         b"{\"key\":\"k\",\"value\":\"v\",\"value\":\"\\u0000\"}",
     ),
+    (PairFormat::Csv, false, b"a", b"b", b"\"a\",\"b\"\r"),
+    (PairFormat::Csv, false, b"a", b"", b"a,\r"),
+    (PairFormat::Csv, false, b"a\"b", b" \"c\"", b"a\"b, \"c\""),
+    (PairFormat::Csv, false, b"a", b"b\r", b"a,b\r\r"),
+    (PairFormat::Csv, false, b"# exhash end 1", b"", b"# exhash end 1,"),
+    (PairFormat::Csv, true, b"\xab", b"\xcd", b"\"aB\",Cd\r"),
 ];
 
 #[test]
@@ -213,7 +248,7 @@ fn other_spellings_are_read(rt: HostRuntime) -> Result<(), Fail> {
 // A format, whether it is in hexadecimal, a line, and why it is no pair.
 type Refused = (PairFormat, bool, &'static [u8], WrongLine);
 
-const WRONG: [Refused; 30] = [
+const WRONG: [Refused; 40] = [
     (PairFormat::Words, false, b"ann", WrongLine::NoValue),
     (PairFormat::Words, false, b"ann\tred", WrongLine::NoValue),
     (PairFormat::Words, false, b"# red", WrongLine::EmptyKey),
@@ -262,7 +297,7 @@ const WRONG: [Refused; 30] = [
     (
         PairFormat::Words,
         false,
-        b"# exhash export csv",
+        b"# exhash export yaml",
         WrongLine::EmptyKey,
     ),
     (
@@ -359,6 +394,56 @@ const WRONG: [Refused; 30] = [
         b"{\"key\":\"\",\"value\":\"v\"}",
         WrongLine::EmptyKey,
     ),
+    (
+        PairFormat::Csv,
+        false,
+        b"ann",
+        WrongLine::Fields { count: 1 },
+    ),
+    (
+        PairFormat::Csv,
+        false,
+        b"\"ann,red\"",
+        WrongLine::Fields { count: 1 },
+    ),
+    (
+        PairFormat::Csv,
+        false,
+        b"ann,red,",
+        WrongLine::Fields { count: 3 },
+    ),
+    (PairFormat::Csv, false, b",red", WrongLine::EmptyKey),
+    (PairFormat::Csv, false, b"\"\",red", WrongLine::EmptyKey),
+    (
+        PairFormat::Csv,
+        false,
+        b"ann,\"red\r",
+        WrongLine::NoRecord(WrongRecord::OpenQuote),
+    ),
+    (
+        PairFormat::Csv,
+        false,
+        b"\"ann\"x,red,\"",
+        WrongLine::NoRecord(WrongRecord::BehindQuote { at: 6 }),
+    ),
+    (
+        PairFormat::Csv,
+        false,
+        b"ann,\"red\"\r\r",
+        WrongLine::NoRecord(WrongRecord::BehindQuote { at: 10 }),
+    ),
+    (
+        PairFormat::Csv,
+        true,
+        b"6,61",
+        WrongLine::NoHex(Field::Key),
+    ),
+    (
+        PairFormat::Csv,
+        true,
+        b"61,6g",
+        WrongLine::NoHex(Field::Value),
+    ),
 ];
 
 fn wrong_in(alloc: Global, format: PairFormat, is_hex: bool, line: &[u8]) -> Option<WrongLine> {
@@ -437,6 +522,7 @@ fn openings_and_ends_are_read(rt: HostRuntime) -> Result<(), Fail> {
     assert!(rt; is_opening(rt.alloc(), opening.as_slice(), PairFormat::Jsonl));
     assert!(rt; is_end(rt.alloc(), b"{\"exhash\":\"end\",\"pairs\":12}", 12));
     assert!(rt; !is_end(rt.alloc(), b"{\"exhash\":\"end\",\"pairs\":12}}", 12));
+    assert!(rt; is_opening(rt.alloc(), b"# exhash export csv", PairFormat::Csv));
     assert!(rt; is_end(rt.alloc(), b"# exhash end 0", 0));
     assert!(rt; is_end(rt.alloc(), b"# exhash end 18446744073709551615", u64::MAX));
     assert!(rt; !is_end(rt.alloc(), b"# exhash end 18446744073709551616", u64::MAX));
@@ -463,5 +549,10 @@ fn sentences(rt: HostRuntime) -> Result<(), Fail> {
     assert!(rt; prints(rt.alloc(), &WrongLine::NoEscape { at: 3 }, escape)?);
     let second = "a second tab stands at byte 8: in a value a tab is written \\t";
     assert!(rt; prints(rt.alloc(), &WrongLine::SecondTab { at: 8 }, second)?);
+    let behind = "at byte 6 a comma is wanted, behind a closing quote";
+    let record = WrongLine::NoRecord(WrongRecord::BehindQuote { at: 6 });
+    assert!(rt; prints(rt.alloc(), &record, behind)?);
+    let fields = "2 fields are wanted, and it has 3";
+    assert!(rt; prints(rt.alloc(), &WrongLine::Fields { count: 3 }, fields)?);
     Ok(())
 }

@@ -3,9 +3,8 @@ ghost use Rattle.std.specs.Prelude.{◌≡◌, ◌++◌, OnOk, decimal, flat_map
 ghost use Rattle.exh_text.specs.Printing.{Keeps};
 ghost use Rattle.exh_csv.specs.Rows.{field_words};
 ghost use Rattle.exh_pair_text.specs.Bytes.{byte_text};
-ghost use Rattle.exh_pair_text.specs.Csv.{csv_words};
 ghost use Rattle.exh_pair_text.specs.Json.{string_by};
-ghost use Rattle.exh_pair_text.specs.Lines.{end_line, field_text, opening_line, pair_line, separated_words};
+ghost use Rattle.exh_pair_text.specs.Lines.{csv_words, end_line, field_text, opening_line, pair_line, separated_words};
 
 use crate::PairFormat;
 use crate::byte_text::{push_byte, push_digits};
