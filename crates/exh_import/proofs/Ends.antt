@@ -2,6 +2,7 @@
 use Rattle.std.proofs.Common.{◌≡◌, ◌≢◌, ◌≤◌, ◌+◌, ◌-◌, ◌^◌, ℕ, true, false, eqb, List, [], ◌∷◌, ◌++◌, length, min, Option, Some, None, IfSome, IsTrue, Result, Ok, Err, IfErr, inl, inr, refl, sym, ap, ◌∙◌, subst, append_assoc, arith}
 use Rattle.std.specs.Io.KnownBytes.{Consumes, IsAtEnd}
 use Rattle.std.proofs.KnownBytes.{Consumes-trans, Consumes-whole}
+use Rattle.exh_pair_text.specs.Records.{IsOneLine}
 use Rattle.exh_pair_text.specs.declared.pair_format.PairFormat.{PairFormat}
 use Rattle.exh_import.specs.declared.import_fault.ImportFault.{ImportFault}
 use Rattle.exh_import.specs.declared.import_fault.ImportFault.TheVariants.{Endless, LongLine, Memory, OtherFormat, Read, Refused}
@@ -10,10 +11,10 @@ use Rattle.exh_import.specs.declared.line_reader.LineReader.{LineReader}
 use Rattle.exh_import.specs.declared.options.ImportOptions.{ImportOptions}
 use Rattle.exh_import.specs.declared.rejection.Rejection.{Rejection}
 use Rattle.exh_import.specs.declared.taking.Taking.{Taking}
-use Rattle.exh_import.specs.Causes.{AreOneLines, HasLines, HasLongLine, IsCause, IsLong, IsNextCause, IsReadCause, IsStoreCause, OpensWith, whole_line, whole_lines}
+use Rattle.exh_import.specs.Causes.{HasLines, HasLongLine, IsCause, IsLong, IsNextCause, IsReadCause, IsStoreCause, OpensWith, whole_line, whole_lines}
 use Rattle.exh_import.specs.Counting.{first_opening, more, starts}
 use Rattle.exh_import.specs.Imports.{Point}
-use Rattle.exh_import.specs.LineReader.{AreTaken, IsOneLine, text_left}
+use Rattle.exh_import.specs.LineReader.{AreTaken, IsLineTaken, text_left}
 use Rattle.exh_import.specs.Pairs.{read_of}
 use Rattle.exh_import.proofs.Puts.{Counts, lines_count}
 use Rattle.exh_import.proofs.Texts.{IsAmid}
@@ -61,15 +62,15 @@ module _ {S L : Type 0} (gives : S → List ℕ → List ℕ → Added → S →
     start = record { taking = starts options; store = store; listener = listener }
 
     abbrev Amid : LineReader R → Point S L → Type 0
-    Amid lines now = IsAmid gives saves rests told remaining known start lines now
+    Amid lines now = IsAmid gives saves rests told options.format remaining known start lines now
 
     counts : (lines : LineReader R) (now : Point S L) (amid : Amid lines now) → Counts gives saves rests told (starts options) now.taking (length amid.front)
     counts lines now amid = lines_count gives saves rests told amid.front start now (omega arith) amid.takes
 
     -- a line that is too long
-    long_line : (old new : LineReader R) (now : Point S L) (number : ℕ) (long : List ℕ) → Amid old now → number ≡ more now.taking.imported.lines → IsLong long → AreTaken remaining old new long → IfSome known (HasLongLine number)
+    long_line : (old new : LineReader R) (now : Point S L) (number : ℕ) (long : List ℕ) → Amid old now → number ≡ more now.taking.imported.lines → IsLong options.format long → AreTaken remaining old new long → IfSome known (HasLongLine options.format number)
     long_line old new now number long amid is is_long given =
-        begins_with known (text_left remaining new) (whole_lines amid.front ++ long) (HasLongLine number)
+        begins_with known (text_left remaining new) (whole_lines amid.front ++ long) (HasLongLine options.format number)
         (Consumes-trans known (text_left remaining old) (text_left remaining new) (whole_lines amid.front) long amid.given given) (λ rest text text_is. record {
           front = amid.front;
           lines = amid.one;
@@ -81,7 +82,7 @@ module _ {S L : Type 0} (gives : S → List ℕ → List ℕ → Added → S →
         })
 
     -- an opening of another format
-    opens : (old new : LineReader R) (now : Point S L) (found : PairFormat) (line : List ℕ) → Amid old now → IsOneLine line → AreTaken remaining old new (whole_line line) ⊎ (AreTaken remaining old new line × IsAtEnd (text_left remaining new))
+    opens : (old new : LineReader R) (now : Point S L) (found : PairFormat) (line : List ℕ) → Amid old now → IsOneLine options.format line → IsLineTaken options.format remaining old new line ⊎ (AreTaken remaining old new line × IsAtEnd (text_left remaining new))
         → now.taking.imported.lines ≡ 0 → first_opening true (read_of now.taking.options line) ≡ Some found → IfSome known (OpensWith options found)
     opens old new now found line amid one given none opening =
         let count = counts old now amid in
@@ -90,15 +91,15 @@ module _ {S L : Type 0} (gives : S → List ℕ → List ℕ → Added → S →
         let is = subst (λ (o : ImportOptions). first_opening true (read_of o line) ≡ Some found) count.options opening in
         elim given [
           | inl whole ↦
-              begins_with known (text_left remaining new) (whole_line line) (OpensWith options found) (Consumes-trans known (text_left remaining old) (text_left remaining new) [] (whole_line line) before whole)
-              (λ rest text text_is. record { line = line; one = one; opening = is; rest = rest; text_is = inl text_is })
+              begins_with known (text_left remaining new) (whole_line line) (OpensWith options found) (Consumes-trans known (text_left remaining old) (text_left remaining new) [] (whole_line line) before whole.1)
+              (λ rest text text_is. record { line = line; one = one; opening = is; rest = rest; text_is = inl (whole.0, text_is) })
           | inr last ↦
               Consumes-whole known (text_left remaining new) line (OpensWith options found) (Consumes-trans known (text_left remaining old) (text_left remaining new) [] line before last.0) last.1
               (record { line = line; one = one; opening = is; rest = []; text_is = inr refl })
         ]
 
     -- of the next line
-    pub next_cause : (old new : LineReader R) (now : Point S L) (store' : S) (fault : ImportFault) → Amid old now → IsNextCause remaining refused old new now.taking store' fault → IsCause refused options known new store' fault
+    pub next_cause : (old new : LineReader R) (now : Point S L) (store' : S) (fault : ImportFault) → Amid old now → IsNextCause options.format remaining refused old new now.taking store' fault → IsCause refused options known new store' fault
     next_cause old new now store' Memory amid cause = tt
     next_cause old new now store' Read amid (inl failed) = failed
     next_cause old new now store' Read amid (inr taken) = absurd taken.cause
@@ -116,6 +117,6 @@ module _ {S L : Type 0} (gives : S → List ℕ → List ℕ → Added → S →
     next_cause old new now store' Endless amid (inr taken) = absurd taken.cause
 
     -- so many lines are taken
-    pub has_lines : (lines : LineReader R) (now : Point S L) (amid : Amid lines now) (count : ℕ) → length amid.front ≡ count → IfSome known (HasLines count)
+    pub has_lines : (lines : LineReader R) (now : Point S L) (amid : Amid lines now) (count : ℕ) → length amid.front ≡ count → IfSome known (HasLines options.format count)
     has_lines lines now amid count is =
-        begins_with known (text_left remaining lines) (whole_lines amid.front) (HasLines count) amid.given (λ rest text text_is. record { front = amid.front; lines = amid.one; count_is = is; rest = rest; text_is = text_is })
+        begins_with known (text_left remaining lines) (whole_lines amid.front) (HasLines options.format count) amid.given (λ rest text text_is. record { front = amid.front; lines = amid.one; count_is = is; rest = rest; text_is = text_is })

@@ -4,15 +4,19 @@ use Rattle.std.specs.List.{AllByRecursion}
 use Rattle.std.specs.Io.KnownBytes.{Consumes, IsAtEnd, Keeps, prepend_known}
 use Rattle.std.proofs.KnownBytes.{Consumes-kept, Consumes-nil, Consumes-trans, Consumes-whole}
 use Rattle.std.proofs.lemmas.List.{length-drop, length_push}
-use Rattle.std.proofs.lemmas.List.Elements.{All-append, All-cons, All-nil}
 use Rattle.exh_stream.specs.Source.{unread}
 use Rattle.exh_text.specs.TextLines.{newline}
+use Rattle.exh_csv.specs.declared.place.Place.{Place}
+use Rattle.exh_csv.specs.declared.place.Place.TheVariants.{Start, Quoted}
+use Rattle.exh_csv.specs.Places.{AreQuoted, place_behind}
+use Rattle.exh_pair_text.specs.Records.{IsOneLine, place_by}
+use Rattle.exh_pair_text.specs.declared.pair_format.PairFormat.{PairFormat}
 use Rattle.exh_import.specs.declared.imported_store.Added.{Added}
 use Rattle.exh_import.specs.declared.line_reader.LineReader.{LineReader}
 use Rattle.exh_import.specs.declared.rejection.Rejection.{Rejection}
-use Rattle.exh_import.specs.Causes.{AreOneLines, whole_line, whole_lines}
+use Rattle.exh_import.specs.Causes.{AreWholeLines, IsWholeLine, whole_line, whole_lines}
 use Rattle.exh_import.specs.Imports.{IsTextOf, Point, TakesLine, TakesLines, TakesText}
-use Rattle.exh_import.specs.LineReader.{EndsRight, IsOneLine, IsOver, TakesNext, text_left, waiting}
+use Rattle.exh_import.specs.LineReader.{EndsRight, IsOver, TakesNext, text_left, waiting}
 
 pub if_ok_map : {T E : Type 0} (result : Result T E) (P Q : T → Type 0) → IfOk result P → ((made : T) → P made → Q made) → IfOk result Q
 if_ok_map (Ok made) P Q holds more = more made holds
@@ -21,30 +25,42 @@ if_ok_map (Err fault) P Q holds more = tt
 -- ---- lines that end with a newline
 
 -- lines behind others
-pub lines_behind : (front lines : List (List ℕ)) (rest : List ℕ) → AreOneLines front → IsTextOf lines rest → IsTextOf (front ++ lines) (whole_lines front ++ rest)
-lines_behind [] lines rest all text = text
-lines_behind (line ∷ front) lines rest all text =
-    (all.0, inl (whole_lines front ++ rest, append_assoc (whole_line line) (whole_lines front) rest ∙ append_assoc line (newline ∷ []) (whole_lines front ++ rest), lines_behind front lines rest all.1 text))
+pub lines_behind : (format : PairFormat) (front lines : List (List ℕ)) (rest : List ℕ) → AreWholeLines format front → IsTextOf format lines rest → IsTextOf format (front ++ lines) (whole_lines front ++ rest)
+lines_behind format [] lines rest all text = text
+lines_behind format (line ∷ front) lines rest all text =
+    (all.0.0, inl (whole_lines front ++ rest, all.0.1, append_assoc (whole_line line) (whole_lines front) rest ∙ append_assoc line (newline ∷ []) (whole_lines front ++ rest), lines_behind format front lines rest all.1 text))
 
-pub lines_end : (front : List (List ℕ)) → AreOneLines front → IsTextOf front (whole_lines front)
-lines_end [] all = refl
-lines_end (line ∷ front) all = (all.0, inl (whole_lines front, append_assoc line (newline ∷ []) (whole_lines front), lines_end front all.1))
+pub lines_end : (format : PairFormat) (front : List (List ℕ)) → AreWholeLines format front → IsTextOf format front (whole_lines front)
+lines_end format [] all = refl
+lines_end format (line ∷ front) all = (all.0.0, inl (whole_lines front, all.0.1, append_assoc line (newline ∷ []) (whole_lines front), lines_end format front all.1))
 
-pub lines_more : (front : List (List ℕ)) (line : List ℕ) → AreOneLines front → IsOneLine line → AreOneLines (front ++ line ∷ [])
-lines_more [] line all one = (one, tt)
-lines_more (first ∷ front) line all one = (all.0, lines_more front line all.1 one)
+pub lines_more : (format : PairFormat) (front : List (List ℕ)) (line : List ℕ) → AreWholeLines format front → IsWholeLine format line → AreWholeLines format (front ++ line ∷ [])
+lines_more format [] line all one = (one, tt)
+lines_more format (first ∷ front) line all one = (all.0, lines_more format front line all.1 one)
 
 pub whole_more : (front : List (List ℕ)) (line : List ℕ) → whole_lines (front ++ line ∷ []) ≡ whole_lines front ++ whole_line line
 whole_more [] line = append-nil (whole_line line)
 whole_more (first ∷ front) line = ap (λ (rest : List ℕ). whole_line first ++ rest) (whole_more front line) ∙ sym (append_assoc (whole_line first) (whole_lines front) (whole_line line))
 
 -- a last line that has no newline
-pub last_line : (line : List ℕ) → IsOneLine line → line ≢ [] → IsTextOf (line ∷ []) line
-last_line line one some = (one, inr (refl, some, refl))
+pub last_line : (format : PairFormat) (line : List ℕ) → IsOneLine format line → line ≢ [] → IsTextOf format (line ∷ []) line
+last_line format line one some = (one, inr (refl, some, refl))
 
-pub more_in_line : (line : List ℕ) (byte : ℕ) → IsOneLine line → byte ≢ newline → IsOneLine (line ++ byte ∷ [])
-more_in_line line byte one other =
-    All-append (λ b. b ≢ newline) line (byte ∷ []) one (All-cons (λ b. b ≢ newline) byte [] other (All-nil (λ b. b ≢ newline)))
+-- one byte more
+module _ (after : Place → ℕ → Place) where
+  pub place_more : (place : Place) (line : List ℕ) (byte : ℕ) → place_behind after place (line ++ byte ∷ []) ≡ after (place_behind after place line) byte
+  place_more place [] byte = refl
+  place_more place (first ∷ line) byte = place_more (after place first) line byte
+
+  pub quoted_more : (place : Place) (line : List ℕ) (byte : ℕ) → AreQuoted after place line → (byte ≡ newline → place_behind after place line ≡ Quoted) → AreQuoted after place (line ++ byte ∷ [])
+  quoted_more place [] byte all other = (other, tt)
+  quoted_more place (first ∷ line) byte all other = (all.0, quoted_more (after place first) line byte all.1 other)
+
+pub more_in_line : (format : PairFormat) (line : List ℕ) (byte : ℕ) → IsOneLine format line → (byte ≡ newline → place_behind (place_by format) Start line ≡ Quoted) → IsOneLine format (line ++ byte ∷ [])
+more_in_line format line byte one other = quoted_more (place_by format) Start line byte one other
+
+pub place_of_more : (format : PairFormat) (line : List ℕ) (byte : ℕ) → place_behind (place_by format) Start (line ++ byte ∷ []) ≡ place_by format (place_behind (place_by format) Start line) byte
+place_of_more format line byte = place_more (place_by format) Start line byte
 
 -- ---- what is left of a text
 
@@ -67,18 +83,18 @@ module _ {S L : Type 0} (gives : S → List ℕ → List ℕ → Added → S →
 
   -- ---- how far a text is imported
 
-  module _ {R : Type 0} (remaining : R → Option (List ℕ)) (known : Option (List ℕ)) (start : Point S L) where
+  module _ (format : PairFormat) {R : Type 0} (remaining : R → Option (List ℕ)) (known : Option (List ℕ)) (start : Point S L) where
     -- lines of it are taken, and more is left
     pub record IsAmid (lines : LineReader R) (now : Point S L) : Type 0 where
       pub front : List (List ℕ)
-      pub one : AreOneLines front
+      pub one : AreWholeLines format front
       pub given : Consumes known (text_left remaining lines) (whole_lines front)
       pub takes : TakesLines gives saves rests told front start now
 
     -- all are
     pub record IsWhole (now : Point S L) : Type 0 where
       pub lines : List (List ℕ)
-      pub text : IfSome known (IsTextOf lines)
+      pub text : IfSome known (IsTextOf format lines)
       pub takes : TakesText gives saves rests told lines start now
 
     pub amid_start : (lines : LineReader R) → Keeps known (text_left remaining lines) → IsAmid lines start
@@ -87,41 +103,41 @@ module _ {S L : Type 0} (gives : S → List ℕ → List ℕ → Added → S →
     pub whole_start : (lines : LineReader R) → Keeps known (text_left remaining lines) → EndsRight remaining lines → IsOver lines → IsWhole start
     whole_start lines kept ends over = record {
       lines = [];
-      text = Consumes-whole known (text_left remaining lines) [] (IsTextOf []) (Consumes-kept known known (text_left remaining lines) [] (Consumes-nil known) kept) (over_end remaining lines ends over) refl;
+      text = Consumes-whole known (text_left remaining lines) [] (IsTextOf format []) (Consumes-kept known known (text_left remaining lines) [] (Consumes-nil known) kept) (over_end remaining lines ends over) refl;
       takes = inl (refl, refl);
     }
 
-    pub amid_step : (old new : LineReader R) (now next : Point S L) → IsAmid old now → TakesNext remaining old new → (IsOver new → ⊥) → TakesLine gives saves rests told false new.line.items now next → IsAmid new next
+    pub amid_step : (old new : LineReader R) (now next : Point S L) → IsAmid old now → TakesNext format remaining old new → (IsOver new → ⊥) → TakesLine gives saves rests told false new.line.items now next → IsAmid new next
     amid_step old new now next amid (one, taken) more takes = elim taken [
       | inl given ↦ record {
         front = amid.front ++ new.line.items ∷ [];
-        one = lines_more amid.front new.line.items amid.one one;
-        given = subst (Consumes known (text_left remaining new)) (sym (whole_more amid.front new.line.items)) (Consumes-trans known (text_left remaining old) (text_left remaining new) (whole_lines amid.front) (whole_line new.line.items) amid.given given);
+        one = lines_more format amid.front new.line.items amid.one (one, given.0);
+        given = subst (Consumes known (text_left remaining new)) (sym (whole_more amid.front new.line.items)) (Consumes-trans known (text_left remaining old) (text_left remaining new) (whole_lines amid.front) (whole_line new.line.items) amid.given given.1);
         takes = takes_more amid.front new.line.items start now next amid.takes takes;
       }
       | inr last ↦ absurd (more last.2)
     ]
 
     -- one line more
-    pub amid_more : (old new : LineReader R) (now next : Point S L) (amid : IsAmid old now) (count : ℕ) → length amid.front ≡ count → TakesNext remaining old new → (IsOver new → ⊥) → TakesLine gives saves rests told false new.line.items now next
+    pub amid_more : (old new : LineReader R) (now next : Point S L) (amid : IsAmid old now) (count : ℕ) → length amid.front ≡ count → TakesNext format remaining old new → (IsOver new → ⊥) → TakesLine gives saves rests told false new.line.items now next
         → (after : IsAmid new next) × (length after.front ≡ count + 1)
     amid_more old new now next amid count is (one, taken) more takes = elim taken [
       | inl given ↦ (amid_step old new now next amid (one, inl given) more takes, length_push amid.front new.line.items ∙ ap (λ (n : ℕ). n + 1) is)
       | inr last ↦ absurd (more last.2)
     ]
 
-    pub whole_step : (old new : LineReader R) (now next : Point S L) → IsAmid old now → TakesNext remaining old new → EndsRight remaining new → IsOver new → TakesLine gives saves rests told true new.line.items now next → IsWhole next
+    pub whole_step : (old new : LineReader R) (now next : Point S L) → IsAmid old now → TakesNext format remaining old new → EndsRight remaining new → IsOver new → TakesLine gives saves rests told true new.line.items now next → IsWhole next
     whole_step old new now next amid (one, taken) ends over takes = record {
       lines = amid.front ++ new.line.items ∷ [];
       text = elim taken [
         | inl given ↦
-            Consumes-whole known (text_left remaining new) (whole_lines amid.front ++ whole_line new.line.items) (IsTextOf (amid.front ++ new.line.items ∷ []))
-            (Consumes-trans known (text_left remaining old) (text_left remaining new) (whole_lines amid.front) (whole_line new.line.items) amid.given given) (over_end remaining new ends over)
-            (subst (IsTextOf (amid.front ++ new.line.items ∷ [])) (whole_more amid.front new.line.items) (lines_end (amid.front ++ new.line.items ∷ []) (lines_more amid.front new.line.items amid.one one)))
+            Consumes-whole known (text_left remaining new) (whole_lines amid.front ++ whole_line new.line.items) (IsTextOf format (amid.front ++ new.line.items ∷ []))
+            (Consumes-trans known (text_left remaining old) (text_left remaining new) (whole_lines amid.front) (whole_line new.line.items) amid.given given.1) (over_end remaining new ends over)
+            (subst (IsTextOf format (amid.front ++ new.line.items ∷ [])) (whole_more amid.front new.line.items) (lines_end format (amid.front ++ new.line.items ∷ []) (lines_more format amid.front new.line.items amid.one (one, given.0))))
         | inr last ↦
-            Consumes-whole known (text_left remaining new) (whole_lines amid.front ++ new.line.items) (IsTextOf (amid.front ++ new.line.items ∷ []))
+            Consumes-whole known (text_left remaining new) (whole_lines amid.front ++ new.line.items) (IsTextOf format (amid.front ++ new.line.items ∷ []))
             (Consumes-trans known (text_left remaining old) (text_left remaining new) (whole_lines amid.front) new.line.items amid.given last.0) (over_end remaining new ends over)
-            (lines_behind amid.front (new.line.items ∷ []) new.line.items amid.one (last_line new.line.items one last.1))
+            (lines_behind format amid.front (new.line.items ∷ []) new.line.items amid.one (last_line format new.line.items one last.1))
       ];
       takes = inr (amid.front, (new.line.items, (now, (refl, (amid.takes, takes)))));
     }

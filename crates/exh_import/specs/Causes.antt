@@ -4,6 +4,7 @@ use Rattle.std.specs.List.{AllByRecursion}
 use Rattle.std.specs.Io.KnownBytes.{IsAtEnd}
 use Rattle.exh_stream.specs.Source.{reader_failed}
 use Rattle.exh_text.specs.TextLines.{newline}
+use Rattle.exh_pair_text.specs.Records.{IsEnded, IsOneLine}
 use Rattle.exh_pair_text.specs.declared.pair_format.PairFormat.{PairFormat}
 use Rattle.exh_import.specs.declared.import_fault.ImportFault.{ImportFault}
 use Rattle.exh_import.specs.declared.import_fault.ImportFault.TheVariants.{Endless, LongLine, Memory, OtherFormat, Read, Refused}
@@ -12,7 +13,7 @@ use Rattle.exh_import.specs.declared.line_reader.TheConstants.{LINE_LIMIT}
 use Rattle.exh_import.specs.declared.options.ImportOptions.{ImportOptions}
 use Rattle.exh_import.specs.declared.taking.Taking.{Taking}
 use Rattle.exh_import.specs.Counting.{first_opening, more}
-use Rattle.exh_import.specs.LineReader.{AreTaken, IsOneLine, text_left}
+use Rattle.exh_import.specs.LineReader.{AreTaken, IsLineTaken, text_left}
 use Rattle.exh_import.specs.Pairs.{read_of}
 
 -- ---- texts
@@ -23,28 +24,31 @@ whole_line line = line ++ newline ∷ []
 abbrev pub whole_lines : List (List ℕ) → List ℕ
 whole_lines lines = flat_map whole_line lines
 
-abbrev pub AreOneLines : List (List ℕ) → Type 0
-AreOneLines lines = AllByRecursion IsOneLine lines
+abbrev pub IsWholeLine : PairFormat → List ℕ → Type 0
+IsWholeLine format line = IsOneLine format line × IsEnded format line
 
--- more bytes than a line has, none of them a newline
-pub record IsLong (bytes : List ℕ) : Type 0 where
-  pub one : IsOneLine bytes
+abbrev pub AreWholeLines : PairFormat → List (List ℕ) → Type 0
+AreWholeLines format lines = AllByRecursion (IsWholeLine format) lines
+
+-- more bytes than a line has, of which no newline ends it
+pub record IsLong (format : PairFormat) (bytes : List ℕ) : Type 0 where
+  pub one : IsOneLine format bytes
   pub more_bytes : LINE_LIMIT < length bytes
 
 -- the line of this number, at most 2^64 - 1, is too long
-pub record HasLongLine (number : ℕ) (text : List ℕ) : Type 0 where
+pub record HasLongLine (format : PairFormat) (number : ℕ) (text : List ℕ) : Type 0 where
   pub front : List (List ℕ)
-  pub lines : AreOneLines front
+  pub lines : AreWholeLines format front
   pub number_is : number ≡ min (length front + 1) (2 ^ 64 - 1)
   pub long : List ℕ
   pub rest : List ℕ
-  pub is_long : IsLong long
+  pub is_long : IsLong format long
   pub text_is : text ≡ (whole_lines front ++ long) ++ rest
 
 -- so many lines stand there, and more may
-pub record HasLines (count : ℕ) (text : List ℕ) : Type 0 where
+pub record HasLines (format : PairFormat) (count : ℕ) (text : List ℕ) : Type 0 where
   pub front : List (List ℕ)
-  pub lines : AreOneLines front
+  pub lines : AreWholeLines format front
   pub count_is : length front ≡ count
   pub rest : List ℕ
   pub text_is : text ≡ whole_lines front ++ rest
@@ -52,10 +56,10 @@ pub record HasLines (count : ℕ) (text : List ℕ) : Type 0 where
 -- the first line opens an export of this format
 pub record OpensWith (options : ImportOptions) (format : PairFormat) (text : List ℕ) : Type 0 where
   pub line : List ℕ
-  pub one : IsOneLine line
+  pub one : IsOneLine options.format line
   pub opening : first_opening true (read_of options line) ≡ Some format
   pub rest : List ℕ
-  pub text_is : (text ≡ whole_line line ++ rest) ⊎ (text ≡ line)
+  pub text_is : (IsEnded options.format line × (text ≡ whole_line line ++ rest)) ⊎ (text ≡ line)
 
 -- ---- a store
 
@@ -70,18 +74,18 @@ abbrev pub IsCause : {R S : Type 0} → (S → S → Type 0) → ImportOptions �
 IsCause refused options known lines store Memory = ⊤
 IsCause refused options known lines store Read = IsTrue (reader_failed lines.source)
 IsCause refused options known lines store Refused = IsRefused refused store
-IsCause refused options known lines store (LongLine number) = IfSome known (HasLongLine number)
+IsCause refused options known lines store (LongLine number) = IfSome known (HasLongLine options.format number)
 IsCause refused options known lines store (OtherFormat found) = (found ≢ options.format) × IfSome known (OpensWith options found)
-IsCause refused options known lines store Endless = IfSome known (HasLines (2 ^ 64 - 1))
+IsCause refused options known lines store Endless = IfSome known (HasLines options.format (2 ^ 64 - 1))
 
 -- ---- of private functions
 
 -- of a line that is read
-abbrev pub IsLineCause : {R : Type 0} → (R → Option (List ℕ)) → ℕ → LineReader R → LineReader R → ImportFault → Type 0
-IsLineCause remaining number old new Memory = ⊤
-IsLineCause remaining number old new Read = IsTrue (reader_failed new.source)
-IsLineCause remaining number old new (LongLine told) = (told ≡ number) × (IsLong new.line.items × AreTaken remaining old new new.line.items)
-IsLineCause remaining number old new fault = ⊥
+abbrev pub IsLineCause : {R : Type 0} → PairFormat → (R → Option (List ℕ)) → ℕ → LineReader R → LineReader R → ImportFault → Type 0
+IsLineCause format remaining number old new Memory = ⊤
+IsLineCause format remaining number old new Read = IsTrue (reader_failed new.source)
+IsLineCause format remaining number old new (LongLine told) = (told ≡ number) × (IsLong format new.line.items × AreTaken remaining old new new.line.items)
+IsLineCause format remaining number old new fault = ⊥
 
 -- of a block that is read
 abbrev pub IsReadCause : {R : Type 0} → LineReader R → ImportFault → Type 0
@@ -103,13 +107,13 @@ IsStoreCause refused store Refused = IsRefused refused store
 IsStoreCause refused store fault = ⊥
 
 -- a line was read, and then taken
-pub record IsReadAndTaken {R S : Type 0} (remaining : R → Option (List ℕ)) (refused : S → S → Type 0) (old new : LineReader R) (taking : Taking) (store : S) (fault : ImportFault) : Type 0 where
+pub record IsReadAndTaken {R S : Type 0} (format : PairFormat) (remaining : R → Option (List ℕ)) (refused : S → S → Type 0) (old new : LineReader R) (taking : Taking) (store : S) (fault : ImportFault) : Type 0 where
   pub line : List ℕ
-  pub one : IsOneLine line
-  pub given : AreTaken remaining old new (whole_line line) ⊎ (AreTaken remaining old new line × IsAtEnd (text_left remaining new))
+  pub one : IsOneLine format line
+  pub given : IsLineTaken format remaining old new line ⊎ (AreTaken remaining old new line × IsAtEnd (text_left remaining new))
   pub cause : IsTakeCause refused taking line store fault
 
 -- of a line that is read and taken
-abbrev pub IsNextCause : {R S : Type 0} → (R → Option (List ℕ)) → (S → S → Type 0) → LineReader R → LineReader R → Taking → S → ImportFault → Type 0
-IsNextCause remaining refused old new taking store fault =
-    IsLineCause remaining (more taking.imported.lines) old new fault ⊎ IsReadAndTaken remaining refused old new taking store fault
+abbrev pub IsNextCause : {R S : Type 0} → PairFormat → (R → Option (List ℕ)) → (S → S → Type 0) → LineReader R → LineReader R → Taking → S → ImportFault → Type 0
+IsNextCause format remaining refused old new taking store fault =
+    IsLineCause format remaining (more taking.imported.lines) old new fault ⊎ IsReadAndTaken format remaining refused old new taking store fault

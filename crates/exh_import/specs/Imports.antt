@@ -5,6 +5,7 @@ use Rattle.exh_pair_text.specs.declared.line.Line.{Line}
 use Rattle.exh_pair_text.specs.declared.line.Line.TheVariants.{Pair, Empty, Wrong as WrongLine}
 use Rattle.exh_pair_text.specs.declared.pair_format.PairFormat.{PairFormat}
 use Rattle.exh_pair_text.specs.Reading.{line_read}
+use Rattle.exh_pair_text.specs.Records.{IsEnded, IsOneLine}
 use Rattle.exh_import.specs.declared.imported.Imported.{Imported}
 use Rattle.exh_import.specs.declared.imported_store.Added.{Added}
 use Rattle.exh_import.specs.declared.imported_store.Added.TheVariants.{Put, Full as NoRoom}
@@ -13,13 +14,12 @@ use Rattle.exh_import.specs.declared.rejection.Rejection.{Rejection}
 use Rattle.exh_import.specs.declared.rejection.Rejection.TheVariants.{Wrong, Misplaced, Full}
 use Rattle.exh_import.specs.declared.taking.Taking.{Taking}
 use Rattle.exh_import.specs.Counting.{closed, committed, first_opening, full_counted, is_amiss, is_due, line_counted, opened, pair_counted, rejected_counted, rested, saved, starts}
-use Rattle.exh_import.specs.LineReader.{IsOneLine}
 
--- The lines of a text: each stands up to a newline, but for the last, which may lack it where it has a byte.
-abbrev pub IsTextOf : List (List ℕ) → List ℕ → Type 0
-IsTextOf [] text = text ≡ []
-IsTextOf (line ∷ lines) text =
-    IsOneLine line × (((rest : List ℕ) × (text ≡ line ++ newline ∷ rest) × IsTextOf lines rest) ⊎ ((text ≡ line) × (line ≢ []) × (lines ≡ [])))
+-- The lines of a text: each stands up to the newline that ends it, but for the last, which may lack it where it has a byte.
+abbrev pub IsTextOf : PairFormat → List (List ℕ) → List ℕ → Type 0
+IsTextOf format [] text = text ≡ []
+IsTextOf format (line ∷ lines) text =
+    IsOneLine format line × (((rest : List ℕ) × IsEnded format line × (text ≡ line ++ newline ∷ rest) × IsTextOf format lines rest) ⊎ ((text ≡ line) × (line ≢ []) × (lines ≡ [])))
 
 -- how far an import is, its store, and its listener
 pub record Point (S L : Type 0) : Type 0 where

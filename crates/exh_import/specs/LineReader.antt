@@ -1,8 +1,10 @@
 -- The lines of a text that comes from a reader: contracts of private functions.
-use Rattle.std.specs.Prelude.{◌≡◌, ◌≢◌, ◌⊎◌, ℕ, List, [], ◌∷◌, ◌++◌, drop, All, Option, IsTrue}
+use Rattle.std.specs.Prelude.{◌≡◌, ◌≢◌, ◌⊎◌, ℕ, List, [], ◌∷◌, ◌++◌, drop, Option, IsTrue}
 use Rattle.std.specs.Io.KnownBytes.{Consumes, IsAtEnd, prepend_known}
 use Rattle.exh_stream.specs.Source.{unread}
 use Rattle.exh_text.specs.TextLines.{newline}
+use Rattle.exh_pair_text.specs.Records.{IsEnded, IsOneLine}
+use Rattle.exh_pair_text.specs.declared.pair_format.PairFormat.{PairFormat}
 use Rattle.exh_import.specs.declared.line_reader.LineReader.{LineReader}
 
 -- what of the block isn't taken yet
@@ -26,10 +28,11 @@ pub record IsOver {R : Type 0} (lines : LineReader R) : Type 0 where
 abbrev pub AreTaken : {R : Type 0} → (R → Option (List ℕ)) → LineReader R → LineReader R → List ℕ → Type 0
 AreTaken remaining old new given = Consumes (text_left remaining old) (text_left remaining new) given
 
-abbrev pub IsOneLine : List ℕ → Type 0
-IsOneLine line = All (λ byte. byte ≢ newline) line
+-- a line was taken, and the newline that ends it
+abbrev pub IsLineTaken : {R : Type 0} → PairFormat → (R → Option (List ℕ)) → LineReader R → LineReader R → List ℕ → Type 0
+IsLineTaken format remaining old new line = IsEnded format line × AreTaken remaining old new (line ++ newline ∷ [])
 
--- a line and its newline were taken, or all that was left, which has none
-abbrev pub TakesNext : {R : Type 0} → (R → Option (List ℕ)) → LineReader R → LineReader R → Type 0
-TakesNext remaining old new =
-    IsOneLine new.line.items × (AreTaken remaining old new (new.line.items ++ newline ∷ []) ⊎ (AreTaken remaining old new new.line.items × (new.line.items ≢ []) × IsOver new))
+-- so, or all that was left, which has none
+abbrev pub TakesNext : {R : Type 0} → PairFormat → (R → Option (List ℕ)) → LineReader R → LineReader R → Type 0
+TakesNext format remaining old new =
+    IsOneLine format new.line.items × (IsLineTaken format remaining old new new.line.items ⊎ (AreTaken remaining old new new.line.items × (new.line.items ≢ []) × IsOver new))

@@ -9,6 +9,7 @@ ghost use Rattle.exh_stream.specs.Source.{SameReader};
 use crate::line_reader::LineReader;
 use crate::taking::Taking;
 use crate::{ImportFault, ImportOptions, Imported, ImportedStore, Rejects};
+use exh_pair_text::PairFormat;
 use std::alloc::Global;
 use std::io::Read;
 
@@ -32,11 +33,11 @@ pub fn import<R: Read, S: ImportedStore, L: Rejects>(
 ) -> Result<Imported, ImportFault>
     requires ends { EndsRight R.remaining lines.old }
     ensures same_reader { SameReader lines.old.source lines.new.source }
-    ensures imports { IfOk result (λ imported. (texts : List (List ℕ)) × (IfSome (text_left R.remaining lines.old) (IsTextOf texts)
+    ensures imports { IfOk result (λ imported. (texts : List (List ℕ)) × (IfSome (text_left R.remaining lines.old) (IsTextOf options.format texts)
         × Imports S.gives S.saves S.rests L.told options texts store.old listener.old imported store.new listener.new)) }
 
     // The pairs of the text's lines are put in order, with commits and rests between.
-    ensures pairs { IfOk result (λ imported. (texts : List (List ℕ)) × (IfSome (text_left R.remaining lines.old) (IsTextOf texts)
+    ensures pairs { IfOk result (λ imported. (texts : List (List ℕ)) × (IfSome (text_left R.remaining lines.old) (IsTextOf options.format texts)
         × ArePut S.gives S.saves S.rests (pairs_put options texts) store.old store.new)) }
 
     // Each error but `Memory` only where its cause is there.
@@ -48,7 +49,7 @@ pub fn import<R: Read, S: ImportedStore, L: Rejects>(
         if is_over {
             return taking.finish(store);
         }
-        is_over = take_next(alloc, lines, &mut taking, store, listener)?;
+        is_over = take_next(alloc, options.format, lines, &mut taking, store, listener)?;
     }
     if is_over {
         taking.finish(store)
@@ -60,6 +61,7 @@ pub fn import<R: Read, S: ImportedStore, L: Rejects>(
 // Takes the next line, and says whether it is the last.
 fn take_next<R: Read, S: ImportedStore, L: Rejects>(
     alloc: Global,
+    format: PairFormat,
     lines: &mut LineReader<'_, R>,
     taking: &mut Taking,
     store: &mut S,
@@ -69,15 +71,15 @@ fn take_next<R: Read, S: ImportedStore, L: Rejects>(
     requires some { waiting lines.old ≢ [] }
     ensures same_reader { SameReader lines.old.source lines.new.source }
     ensures ends { OnOk result (EndsRight R.remaining lines.new) }
-    ensures next { OnOk result (TakesNext R.remaining lines.old lines.new) }
+    ensures next { OnOk result (TakesNext format R.remaining lines.old lines.new) }
     ensures over { IfOk result (λ over. IsTrue over → IsOver lines.new) }
     ensures some { IfOk result (λ over. IsFalse over → waiting lines.new ≢ []) }
     ensures taken { IfOk result (λ over. TakesLine S.gives S.saves S.rests L.told over lines.new.line.items
         (record { taking = taking.old; store = store.old; listener = listener.old })
         (record { taking = taking.new; store = store.new; listener = listener.new })) }
-    ensures cause { IfErr result (IsNextCause R.remaining S.refused lines.old lines.new taking.old store.new) }
+    ensures cause { IfErr result (IsNextCause format R.remaining S.refused lines.old lines.new taking.old store.new) }
 {
-    lines.next_line(taking.imported.lines.saturating_add(1))?;
+    lines.next_line(format, taking.imported.lines.saturating_add(1))?;
     let is_last = lines.is_over()?;
     taking.take(alloc, lines.line(), is_last, store, listener)?;
     Ok(is_last)

@@ -1,11 +1,15 @@
-//! The lines of a text that comes from a reader, one at a time.
+//! The lines of a text that comes from a reader, one at a time. Which newline ends a line, its format says.
 ghost use Rattle.std.specs.Prelude.{◌≡◌, ◌≢◌, ◌⊎◌, [], ◌∷◌, ◌++◌, option_to_list, IfErr, IfNone, IfOk, IsFalse, IsTrue, OnOk};
 ghost use Rattle.std.specs.Io.KnownBytes.{Keeps};
 ghost use Rattle.exh_stream.specs.Source.{ReadsFrom, SameReader};
+ghost use Rattle.exh_csv.specs.declared.place.Place.TheVariants.{Quoted};
+ghost use Rattle.exh_text.specs.TextLines.{newline};
 ghost use Rattle.exh_import.specs.Causes.{IsLineCause, IsReadCause};
 ghost use Rattle.exh_import.specs.LineReader.{AreTaken, EndsRight, IsOver, TakesNext, text_left, waiting};
 
 use crate::ImportFault;
+use exh_csv::Place;
+use exh_pair_text::PairFormat;
 use exh_stream::{BLOCK, Source};
 use std::alloc::{AllocError, Global};
 use std::io::Read;
@@ -13,7 +17,7 @@ use std::io::Read;
 /// The most bytes of a line.
 pub const LINE_LIMIT: usize = 65_536;
 
-/// The lines of a reader, each up to its newline; the last may lack it. Of what the reader gives, a block and a line are
+/// The lines of a reader, each up to the newline that ends it; the last may lack it. Of what the reader gives, a block and a line are
 /// kept.
 #[derive(Drop)]
 pub struct LineReader<'r, R: Read> {
@@ -50,20 +54,29 @@ impl<'r, R: Read> LineReader<'r, R> {
     }
 
     // Takes the next line, which has this number, where something of the text is left.
-    pub(crate) fn next_line(&mut self, number: u64) -> Result<(), ImportFault>
+    pub(crate) fn next_line(
+        &mut self,
+        format: PairFormat,
+        number: u64,
+    ) -> Result<(), ImportFault>
         requires ends { EndsRight R.remaining self.old }
         requires some { waiting self.old ≢ [] }
         ensures same_reader { SameReader self.old.source self.new.source }
         ensures ends { OnOk result (EndsRight R.remaining self.new) }
-        ensures next { OnOk result (TakesNext R.remaining self.old self.new) }
-        ensures cause { IfErr result (IsLineCause R.remaining number self.old self.new) }
+        ensures next { OnOk result (TakesNext format R.remaining self.old self.new) }
+        ensures cause { IfErr result (IsLineCause format R.remaining number self.old self.new) }
     {
         self.line.clear();
+        let mut place = Place::Start;
         'bytes: for _byte in 0..LINE_LIMIT + 1 {
-            match self.next_byte()? {
-                None | Some(b'\n') => return Ok(()),
-                Some(byte) => push_byte(&mut self.line, byte)?,
+            let Some(byte) = self.next_byte()? else {
+                return Ok(());
+            };
+            if ends_line(place, byte) {
+                return Ok(());
             }
+            push_byte(&mut self.line, byte)?;
+            place = format.place_after(place, byte);
         }
         Err(ImportFault::LongLine { number })
     }
@@ -132,6 +145,14 @@ impl<'r, R: Read> LineReader<'r, R> {
         self.block.extend_from_slice(&bytes[..count])?;
         Ok(())
     }
+}
+
+// Whether a byte at this place is the newline that ends a line.
+fn ends_line(place: Place, byte: u8) -> bool
+    ensures ends { IsTrue result → (byte ≡ newline) × (place ≢ Quoted) }
+    ensures amid { IsFalse result → byte ≡ newline → place ≡ Quoted }
+{
+    byte == b'\n' && !place.is_quoted()
 }
 
 // Adds a byte.

@@ -23,10 +23,10 @@ lines-init g c =
     record {
       same_reader = c.in_ok-is_over.ensures.same_reader;
       ends = c.in_ok-is_over.ensures.ends;
-      over = λ is. subst (λ (t : Taking). IsWhole G V W T R known start (record { taking = t; store = c.args.store.now; listener = c.args.listener.now })) (sym c.new-taking.ensures) (whole_start G V W T R known start now kept c.in_ok-is_over.ensures.ends (c.in_ok-is_over.ensures.over is));
+      over = λ is. subst (λ (t : Taking). IsWhole G V W T c.args.options.format R known start (record { taking = t; store = c.args.store.now; listener = c.args.listener.now })) (sym c.new-taking.ensures) (whole_start G V W T c.args.options.format R known start now kept c.in_ok-is_over.ensures.ends (c.in_ok-is_over.ensures.over is));
       amid = λ is. (
         c.in_ok-is_over.ensures.some is,
-        subst (λ (t : Taking). (amid : IsAmid G V W T R known start now (record { taking = t; store = c.args.store.now; listener = c.args.listener.now })) × (length amid.front ≡ 0)) (sym c.new-taking.ensures) (amid_start G V W T R known start now kept, refl),
+        subst (λ (t : Taking). (amid : IsAmid G V W T c.args.options.format R known start now (record { taking = t; store = c.args.store.now; listener = c.args.listener.now })) × (length amid.front ≡ 0)) (sym c.new-taking.ensures) (amid_start G V W T c.args.options.format R known start now kept, refl),
       );
     }
 
@@ -72,9 +72,9 @@ lines-preserved g c =
     record {
       same_reader = told.same_reader ∙ c.lines.invariant.same_reader;
       ends = told.ends;
-      over = λ is. whole_step G V W T R known start old new now next amid told.next told.ends (told.over is) (subst (λ b. TakesLine G V W T b new.line.items now next) is told.taken);
+      over = λ is. whole_step G V W T c.args.options.format R known start old new now next amid told.next told.ends (told.over is) (subst (λ b. TakesLine G V W T b new.line.items now next) is told.taken);
       amid = λ is. (
         told.some is,
-        amid_more G V W T R known start old new now next amid c.lines._line (c.lines.invariant.amid c.if-is_over.false).1.1 told.next (λ over. told.some is over.taken) (subst (λ b. TakesLine G V W T b new.line.items now next) is told.taken),
+        amid_more G V W T c.args.options.format R known start old new now next amid c.lines._line (c.lines.invariant.amid c.if-is_over.false).1.1 told.next (λ over. told.some is over.taken) (subst (λ b. TakesLine G V W T b new.line.items now next) is told.taken),
       );
     }
