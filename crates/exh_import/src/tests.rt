@@ -3,6 +3,7 @@ use crate::{
     Added, ImportFault, ImportOptions, Imported, ImportedStore, LineReader, Refused, Rejection,
     Rejects, import,
 };
+use exh_csv::WrongRecord;
 use exh_page::{Key, Value};
 use exh_pair_text::{PairFormat, WrongLine};
 use std::alloc::Global;
@@ -317,6 +318,53 @@ fn no_rest_comes_behind_the_last_put(rt: HostRuntime) -> Result<(), Fail> {
     assert!(rt; found.is_ok());
     assert!(rt; store.commits.as_slice() == [2, 4, 4].as_slice());
     assert!(rt; store.rests.as_slice() == [2].as_slice());
+    Ok(())
+}
+
+const CSV: ImportOptions = ImportOptions {
+    format: PairFormat::Csv,
+    is_hex: false,
+    is_atomic: false,
+    batch: 100,
+};
+
+#[test]
+fn newlines_in_quotes_end_no_line(rt: HostRuntime) -> Result<(), Fail> {
+    let text = b"# exhash export csv\r\n\"a\nb\",\"\n\"\"\n\"\r\n\nk\"\nc\"d,\"1\n2\"3\n# exhash end 3\n";
+    for most in [1, 5, 10_000] {
+        let mut store = FakeStore::new(rt.alloc());
+        let mut told = Told {
+            lines: Vec::new(rt.alloc()),
+        };
+        let found = imported(rt.alloc(), text.as_slice(), most, CSV, &mut store, &mut told);
+        let Ok(found) = found else {
+            return Err(Fail::new("the import failed"));
+        };
+        assert!(rt; found.lines == 6 && found.pairs == 1 && found.rejected == 2);
+        assert!(rt; !found.is_cut_off);
+        assert!(rt; is_pair(store.pairs.first(), b"a\nb", b"\n\"\n"));
+        let behind = WrongLine::NoRecord(WrongRecord::BehindQuote { at: 10 });
+        let want = [
+            (4, Rejection::Wrong(WrongLine::Fields { count: 1 }), 2),
+            (5, Rejection::Wrong(behind), 10),
+        ];
+        assert!(rt; told.lines.as_slice() == want.as_slice());
+    }
+    Ok(())
+}
+
+#[test]
+fn quotes_that_are_not_closed_go_on_to_the_end(rt: HostRuntime) -> Result<(), Fail> {
+    let mut store = FakeStore::new(rt.alloc());
+    let mut told = Told {
+        lines: Vec::new(rt.alloc()),
+    };
+    let text = b"# exhash export csv\na,1\nb,\"2\nc,3\n# exhash end 3\n";
+    let found = imported(rt.alloc(), text.as_slice(), 3, CSV, &mut store, &mut told);
+    let Ok(found) = found else {
+        return Err(Fail::new("the import failed"));
+    };
+    assert!(rt; found.lines == 3 && found.pairs == 1 && found.is_cut_off);
     Ok(())
 }
 
