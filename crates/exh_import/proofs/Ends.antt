@@ -1,5 +1,6 @@
 -- Why an import ends before its text's end.
 use Rattle.std.proofs.Common.{◌≡◌, ◌≢◌, ◌≤◌, ◌+◌, ◌-◌, ◌^◌, ℕ, true, false, eqb, List, [], ◌∷◌, ◌++◌, length, min, Option, Some, None, IfSome, IsTrue, Result, Ok, Err, IfErr, inl, inr, refl, sym, ap, ◌∙◌, subst, append_assoc, arith}
+use Rattle.std.specs.Prelude.{IsErrAnd}
 use Rattle.std.specs.Io.KnownBytes.{Consumes, IsAtEnd}
 use Rattle.std.proofs.KnownBytes.{Consumes-trans, Consumes-whole}
 use Rattle.exh_pair_text.specs.declared.pair_format.PairFormat.{PairFormat}
@@ -10,7 +11,7 @@ use Rattle.exh_import.specs.declared.line_reader.LineReader.{LineReader}
 use Rattle.exh_import.specs.declared.options.ImportOptions.{ImportOptions}
 use Rattle.exh_import.specs.declared.rejection.Rejection.{Rejection}
 use Rattle.exh_import.specs.declared.taking.Taking.{Taking}
-use Rattle.exh_import.specs.Causes.{AreOneLines, HasLines, HasLongLine, IsCause, IsLong, IsNextCause, IsReadCause, IsStoreCause, OpensWith, whole_line, whole_lines}
+use Rattle.exh_import.specs.Causes.{AreOneLines, HasLines, HasLongLine, IsCause, IsLineCause, IsLong, IsNextCause, IsReadCause, IsStoreCause, OpensWith, whole_line, whole_lines}
 use Rattle.exh_import.specs.Counting.{first_opening, more, starts}
 use Rattle.exh_import.specs.Imports.{Point}
 use Rattle.exh_import.specs.LineReader.{AreTaken, IsOneLine, text_left}
@@ -18,9 +19,10 @@ use Rattle.exh_import.specs.Pairs.{read_of}
 use Rattle.exh_import.proofs.Puts.{Counts, lines_count}
 use Rattle.exh_import.proofs.Texts.{IsAmid}
 
-pub if_err_map : {T E : Type 0} (result : Result T E) (P Q : E → Type 0) → IfErr result P → ((fault : E) → P fault → Q fault) → IfErr result Q
-if_err_map (Ok made) P Q holds more = tt
-if_err_map (Err fault) P Q holds more = more fault holds
+-- a fault that is handed on
+pub err_as : {T : Type 0} (result : Result T ImportFault) (fault : ImportFault) (P : ImportFault → Type 0) → IsErrAnd result (λ e. e ≡ fault) → P fault → IfErr result P
+err_as (Ok made) fault P is holds = tt
+err_as (Err e) fault P is holds = subst P (sym is) holds
 
 -- known bytes begin with what was taken of them
 begins_with : (known left : Option (List ℕ)) (bytes : List ℕ) (P : List ℕ → Type 0) → Consumes known left bytes → ((rest text : List ℕ) → text ≡ bytes ++ rest → P text) → IfSome known P
@@ -46,6 +48,15 @@ read_cause refused options known lines store Refused cause = absurd cause
 read_cause refused options known lines store (LongLine number) cause = absurd cause
 read_cause refused options known lines store (OtherFormat found) cause = absurd cause
 read_cause refused options known lines store Endless cause = absurd cause
+
+-- so of a line
+pub line_cause : {R : Type 0} (remaining : R → Option (List ℕ)) (number : ℕ) (old new : LineReader R) (fault : ImportFault) → IsReadCause new fault → IsLineCause remaining number old new fault
+line_cause remaining number old new Memory cause = tt
+line_cause remaining number old new Read cause = cause
+line_cause remaining number old new Refused cause = absurd cause
+line_cause remaining number old new (LongLine told) cause = absurd cause
+line_cause remaining number old new (OtherFormat found) cause = absurd cause
+line_cause remaining number old new Endless cause = absurd cause
 
 pub store_cause : {R S : Type 0} (refused : S → S → Type 0) (options : ImportOptions) (known : Option (List ℕ)) (lines : LineReader R) (store : S) (fault : ImportFault) → IsStoreCause refused store fault → IsCause refused options known lines store fault
 store_cause refused options known lines store Memory cause = tt
