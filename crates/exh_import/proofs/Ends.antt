@@ -30,6 +30,9 @@ begins_with None left bytes P taken more = tt
 begins_with (Some text) None bytes P taken more = absurd taken
 begins_with (Some text) (Some rest) bytes P taken more = more rest text taken
 
+none_few : 0 ≤ 2 ^ 64 - 1
+none_few = omega arith
+
 none_before : (count lines : ℕ) → lines ≡ min (0 + count) (2 ^ 64 - 1) → lines ≡ 0 → count ≡ 0
 none_before count lines is none = omega (arith, is, none)
 
@@ -75,7 +78,7 @@ module _ {S L : Type 0} (gives : S → List ℕ → List ℕ → Added → S →
     Amid lines now = IsAmid gives saves rests told remaining known start lines now
 
     counts : (lines : LineReader R) (now : Point S L) (amid : Amid lines now) → Counts gives saves rests told (starts options) now.taking (length amid.front)
-    counts lines now amid = lines_count gives saves rests told amid.front start now (omega arith) amid.takes
+    counts lines now amid = lines_count gives saves rests told amid.front start now none_few amid.takes
 
     -- a line that is too long
     long_line : (old new : LineReader R) (now : Point S L) (number : ℕ) (long : List ℕ) → Amid old now → number ≡ more now.taking.imported.lines → IsLong long → AreTaken remaining old new long → IfSome known (HasLongLine number)
