@@ -1,4 +1,4 @@
-use Rattle.std.proofs.Common.{◌≡◌, ℕ, List, [], ◌∷◌, ◌++◌, length, sym, ap, ◌∙◌, subst, arith}
+use Rattle.std.proofs.Common.{◌≡◌, ℕ, ◌+◌, List, [], ◌∷◌, ◌++◌, length, sym, ap, ◌∙◌, subst, arith}
 use Rattle.std.specs.Prelude.{Option, option_to_list}
 use Rattle.std.proofs.KnownBytes.{Consumes-trans}
 use Rattle.std.proofs.lemmas.List.{length_push}
@@ -20,5 +20,6 @@ bytes-preserved g c =
       ends = c.in_ok-next_byte.ensures.ends;
       taken = subst (AreTaken R c.args.self.now now) (sym pushed) (Consumes-trans (text_left R c.args.self.now) (text_left R c.bytes.self) (text_left R now) c.bytes.self.line.items (byte ∷ []) i.taken one);
       one = subst IsOneLine (sym pushed) (more_in_line c.bytes.self.line.items byte i.one (omega arith));
+      counted = ap length pushed ∙ length_push c.bytes.self.line.items byte ∙ ap (λ (n : ℕ). n + 1) i.counted;
       some = λ none. absurd (omega (arith, ap length (sym pushed ∙ none), length_push c.bytes.self.line.items byte));
     }

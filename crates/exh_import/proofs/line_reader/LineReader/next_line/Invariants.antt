@@ -1,4 +1,4 @@
-use Rattle.std.proofs.Common.{◌≡◌, ◌≢◌, []}
+use Rattle.std.proofs.Common.{◌≡◌, ◌≢◌, [], length}
 use Rattle.exh_stream.specs.Source.{SameReader}
 use Rattle.exh_import.specs.LineReader.{AreTaken, EndsRight, IsOneLine, waiting}
 use Rattle.exh_import.proofs.line_reader.LineReader.next_line.Given as goal
@@ -11,4 +11,5 @@ invariant-bytes g l = record {
   taken : AreTaken g.R.Read.remaining l.fn.self l.self l.self.line.items;
   one : IsOneLine l.self.line.items;
   some : l.self.line.items ≡ [] → waiting l.self ≢ [];
+  counted : length l.self.line.items ≡ l._byte;
 }
