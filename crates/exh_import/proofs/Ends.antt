@@ -1,5 +1,6 @@
 -- Why an import ends before its text's end.
 use Rattle.std.proofs.Common.{◌≡◌, ◌≢◌, ◌≤◌, ◌+◌, ◌-◌, ◌^◌, ℕ, true, false, eqb, List, [], ◌∷◌, ◌++◌, length, min, Option, Some, None, IfSome, IsTrue, Result, Ok, Err, IfErr, inl, inr, refl, sym, ap, ◌∙◌, subst, append_assoc, arith}
+use Rattle.std.specs.Prelude.{IsErrAnd}
 use Rattle.std.specs.Io.KnownBytes.{Consumes, IsAtEnd}
 use Rattle.std.proofs.KnownBytes.{Consumes-trans, Consumes-whole}
 use Rattle.exh_pair_text.specs.Records.{IsOneLine}
@@ -11,7 +12,7 @@ use Rattle.exh_import.specs.declared.line_reader.LineReader.{LineReader}
 use Rattle.exh_import.specs.declared.options.ImportOptions.{ImportOptions}
 use Rattle.exh_import.specs.declared.rejection.Rejection.{Rejection}
 use Rattle.exh_import.specs.declared.taking.Taking.{Taking}
-use Rattle.exh_import.specs.Causes.{HasLines, HasLongLine, IsCause, IsLong, IsNextCause, IsReadCause, IsStoreCause, OpensWith, whole_line, whole_lines}
+use Rattle.exh_import.specs.Causes.{HasLines, HasLongLine, IsCause, IsLineCause, IsLong, IsNextCause, IsReadCause, IsStoreCause, OpensWith, whole_line, whole_lines}
 use Rattle.exh_import.specs.Counting.{first_opening, more, starts}
 use Rattle.exh_import.specs.Imports.{Point}
 use Rattle.exh_import.specs.LineReader.{AreTaken, IsLineTaken, text_left}
@@ -19,15 +20,19 @@ use Rattle.exh_import.specs.Pairs.{read_of}
 use Rattle.exh_import.proofs.Puts.{Counts, lines_count}
 use Rattle.exh_import.proofs.Texts.{IsAmid}
 
-pub if_err_map : {T E : Type 0} (result : Result T E) (P Q : E → Type 0) → IfErr result P → ((fault : E) → P fault → Q fault) → IfErr result Q
-if_err_map (Ok made) P Q holds more = tt
-if_err_map (Err fault) P Q holds more = more fault holds
+-- a fault that is handed on
+pub err_as : {T : Type 0} (result : Result T ImportFault) (fault : ImportFault) (P : ImportFault → Type 0) → IsErrAnd result (λ e. e ≡ fault) → P fault → IfErr result P
+err_as (Ok made) fault P is holds = tt
+err_as (Err e) fault P is holds = subst P (sym is) holds
 
 -- known bytes begin with what was taken of them
 begins_with : (known left : Option (List ℕ)) (bytes : List ℕ) (P : List ℕ → Type 0) → Consumes known left bytes → ((rest text : List ℕ) → text ≡ bytes ++ rest → P text) → IfSome known P
 begins_with None left bytes P taken more = tt
 begins_with (Some text) None bytes P taken more = absurd taken
 begins_with (Some text) (Some rest) bytes P taken more = more rest text taken
+
+none_few : 0 ≤ 2 ^ 64 - 1
+none_few = omega arith
 
 none_before : (count lines : ℕ) → lines ≡ min (0 + count) (2 ^ 64 - 1) → lines ≡ 0 → count ≡ 0
 none_before count lines is none = omega (arith, is, none)
@@ -48,6 +53,15 @@ read_cause refused options known lines store (LongLine number) cause = absurd ca
 read_cause refused options known lines store (OtherFormat found) cause = absurd cause
 read_cause refused options known lines store Endless cause = absurd cause
 
+-- so of a line
+pub line_cause : {R : Type 0} (format : PairFormat) (remaining : R → Option (List ℕ)) (number : ℕ) (old new : LineReader R) (fault : ImportFault) → IsReadCause new fault → IsLineCause format remaining number old new fault
+line_cause format remaining number old new Memory cause = tt
+line_cause format remaining number old new Read cause = cause
+line_cause format remaining number old new Refused cause = absurd cause
+line_cause format remaining number old new (LongLine told) cause = absurd cause
+line_cause format remaining number old new (OtherFormat found) cause = absurd cause
+line_cause format remaining number old new Endless cause = absurd cause
+
 pub store_cause : {R S : Type 0} (refused : S → S → Type 0) (options : ImportOptions) (known : Option (List ℕ)) (lines : LineReader R) (store : S) (fault : ImportFault) → IsStoreCause refused store fault → IsCause refused options known lines store fault
 store_cause refused options known lines store Memory cause = tt
 store_cause refused options known lines store Read cause = absurd cause
@@ -65,7 +79,7 @@ module _ {S L : Type 0} (gives : S → List ℕ → List ℕ → Added → S →
     Amid lines now = IsAmid gives saves rests told options.format remaining known start lines now
 
     counts : (lines : LineReader R) (now : Point S L) (amid : Amid lines now) → Counts gives saves rests told (starts options) now.taking (length amid.front)
-    counts lines now amid = lines_count gives saves rests told amid.front start now (omega arith) amid.takes
+    counts lines now amid = lines_count gives saves rests told amid.front start now none_few amid.takes
 
     -- a line that is too long
     long_line : (old new : LineReader R) (now : Point S L) (number : ℕ) (long : List ℕ) → Amid old now → number ≡ more now.taking.imported.lines → IsLong options.format long → AreTaken remaining old new long → IfSome known (HasLongLine options.format number)

@@ -51,13 +51,13 @@ module _ {S L : Type 0} (gives : S → List ℕ → List ℕ → Added → S →
   batch true old taking taking' store store' options lines opened (is, saved) = ((1, (store', (inl saved, refl))), goes_same old taking' (record taking { unsaved = 0; is_saved = true }) is options lines opened)
   batch false old taking taking' store store' options lines opened (is, same) = ((0, same), goes_same old taking' taking is options lines opened)
 
-  answered : (answer : Added) (key value : List ℕ) (stored : S) (line : List ℕ) (old new : Point S L) → gives old.store key value answer stored → Answered gives saves rests told answer stored line old new
-      → ArePut gives saves rests ((key, value) ∷ []) old.store new.store × Goes old.taking new.taking
-  answered Full key value stored line old new given (taking, store, listener) =
-      ((0, (old.store, (Full, (stored, (refl, (given, (0, store))))))), goes_same old.taking new.taking (full_counted old.taking) taking refl refl refl)
-  answered Put key value stored line old new given (saved, listener) =
+  answered : (answer : Added) (key value : List ℕ) (before stored : S) (line : List ℕ) (old new : Point S L) → gives before key value answer stored → Answered gives saves rests told answer stored line old new
+      → ArePut gives saves rests ((key, value) ∷ []) before new.store × Goes old.taking new.taking
+  answered Full key value before stored line old new given (taking, store, listener) =
+      ((0, (before, (Full, (stored, (refl, (given, (0, store))))))), goes_same old.taking new.taking (full_counted old.taking) taking refl refl refl)
+  answered Put key value before stored line old new given (saved, listener) =
       let done = batch (is_due (pair_counted old.taking)) old.taking (pair_counted old.taking) new.taking stored new.store refl refl refl saved in
-      ((0, (old.store, (Put, (stored, (refl, (given, done.0)))))), done.1)
+      ((0, (before, (Put, (stored, (refl, (given, done.0)))))), done.1)
 
   rested_put : (b : Bool) (pairs : List (List ℕ × List ℕ)) (old mid new : S) → RestsWhere rests b old mid → ArePut gives saves rests pairs mid new → ArePut gives saves rests pairs old new
   rested_put true pairs old mid new rest put = saved_put 1 pairs old mid new (mid, (inr rest, refl)) put
@@ -65,7 +65,7 @@ module _ {S L : Type 0} (gives : S → List ℕ → List ℕ → Added → S →
 
   pub amid : (read : Line) (line : List ℕ) (old new : Point S L) → TakesAmid gives saves rests told read line old new → ArePut gives saves rests (pair_of read) old.store new.store × Goes old.taking new.taking
   amid (Pair key value) line old new puts =
-      let done = answered puts.answer key value puts.stored line (record { taking = rested old.taking; store = puts.before; listener = old.listener }) new puts.put puts.answered in
+      let done = answered puts.answer key value puts.before puts.stored line (record old { taking = rested old.taking }) new puts.put puts.answered in
       (rested_put old.taking.is_saved ((key, value) ∷ []) old.store puts.before new.store puts.rest done.0, record { options = done.1.options; lines = done.1.lines; opened = done.1.opened })
   amid Empty line old new same = ((0, ap (λ (p : Point S L). p.store) same), goes_same old.taking new.taking old.taking (ap (λ (p : Point S L). p.taking) same) refl refl refl)
   amid (Wrong wrong) line old new rejected = ((0, rejected.store), goes_same old.taking new.taking (rejected_counted old.taking) rejected.taking refl refl refl)

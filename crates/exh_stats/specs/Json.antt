@@ -26,24 +26,35 @@ list_json name numbers = name ++ each_from number_json 0 numbers
 
 -- ---- a file
 
+abbrev pub format_json : Stats → List ℕ
+format_json s = member_json (codes "{\"version\":") s.version ++ (member_json (codes ",\"cap\":") s.settings.cap ++ member_json (codes ",\"wards\":") (length s.wards.items))
+
+abbrev pub keyer_json : Stats → List ℕ
+keyer_json s = codes ",\"keyer\":\"" ++ (keyer_word s.settings.keyer ++ codes "\"")
+
 abbrev pub settings_json : Stats → List ℕ
-settings_json s =
-    (member_json (codes "{\"version\":") s.version ++ (member_json (codes ",\"cap\":") s.settings.cap ++ member_json (codes ",\"wards\":") (length s.wards.items)))
-    ++ (codes ",\"keyer\":\"" ++ (keyer_word s.settings.keyer ++ codes "\""))
+settings_json s = format_json s ++ keyer_json s
 
 -- records and pages
 abbrev pub pages_json : Stats → List ℕ
 pages_json s = member_json (codes ",\"records\":") s.records ++ (member_json (codes ",\"live_pages\":") s.live ++ member_json (codes ",\"forwarding_pages\":") s.forwarding)
 
 -- the pages that can't be split, and bytes
+abbrev pub limit_json : Stats → List ℕ
+limit_json s = member_json (codes ",\"pages_at_limit\":") s.at_limit ++ member_json (codes ",\"full_pages_at_limit\":") s.full_at_limit
+
+abbrev pub sizes_json : Stats → List ℕ
+sizes_json s = member_json (codes ",\"record_bytes\":") s.record_bytes ++ member_json (codes ",\"page_bytes\":") s.page_bytes
+
 abbrev pub bytes_json : Stats → List ℕ
-bytes_json s =
-    (member_json (codes ",\"pages_at_limit\":") s.at_limit ++ member_json (codes ",\"full_pages_at_limit\":") s.full_at_limit)
-    ++ (member_json (codes ",\"record_bytes\":") s.record_bytes ++ member_json (codes ",\"page_bytes\":") s.page_bytes)
+bytes_json s = limit_json s ++ sizes_json s
 
 -- the prefix without a bit is an empty text
+abbrev pub prefix_json : ℕ → List Bool → List ℕ
+prefix_json bits prefix = if bits == 0 then [] else prefix_text prefix
+
 abbrev pub longest_json : List Bool → List ℕ
-longest_json prefix = if length prefix == 0 then [] else prefix_text prefix
+longest_json prefix = prefix_json (length prefix) prefix
 
 abbrev pub depth_json : Stats → List ℕ
 depth_json s = member_json (codes ",\"depth\":") (length s.longest) ++ (codes ",\"longest_prefix\":\"" ++ longest_json s.longest)

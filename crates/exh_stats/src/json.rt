@@ -1,7 +1,6 @@
 //! What a file has, as one object of JSON.
-ghost use Rattle.std.specs.Prelude.{◌≡◌, ◌++◌, IfOk, OnOk, codes, decimal, length};
-ghost use Rattle.exh_keyer.specs.Pseudokey.{keyer_word};
-ghost use Rattle.exh_stats.specs.Json.{by_bits_json, by_records_json, bytes_json, counts_json, depth_json, list_json, longest_json, member_json, number_json, pages_json, parting, settings_json, shape_json, stats_json, totals_json, ward_json, wards_json};
+ghost use Rattle.std.specs.Prelude.{◌≡◌, ◌++◌, IfOk, OnOk};
+ghost use Rattle.exh_stats.specs.Json.{by_bits_json, by_records_json, bytes_json, counts_json, depth_json, format_json, keyer_json, limit_json, list_json, longest_json, member_json, number_json, pages_json, parting, prefix_json, settings_json, shape_json, sizes_json, stats_json, totals_json, ward_json, wards_json};
 ghost use Rattle.exh_stats.specs.Text.{each_from};
 
 use crate::{BIT_COUNTS, RECORD_COUNTS, Stats, WardCounts};
@@ -39,7 +38,7 @@ fn push_settings(out: &mut Vec<u8>, stats: &Stats) -> Result<(), AllocError>
 
 // Adds its version, its cap and its wards.
 fn push_format(out: &mut Vec<u8>, stats: &Stats) -> Result<(), AllocError>
-    ensures { OnOk result (out.new.items ≡ out.old.items ++ (member_json (codes "{\"version\":") stats.now.version ++ (member_json (codes ",\"cap\":") stats.now.settings.cap ++ member_json (codes ",\"wards\":") (length stats.now.wards.items)))) }
+    ensures { OnOk result (out.new.items ≡ out.old.items ++ format_json stats.now) }
 {
     push_member(out, "{\"version\":", u64::from(stats.version))?;
     push_member(out, ",\"cap\":", u64::from(stats.settings.cap))?;
@@ -48,7 +47,7 @@ fn push_format(out: &mut Vec<u8>, stats: &Stats) -> Result<(), AllocError>
 
 // Adds its keyer.
 fn push_keyer(out: &mut Vec<u8>, stats: &Stats) -> Result<(), AllocError>
-    ensures { OnOk result (out.new.items ≡ out.old.items ++ (codes ",\"keyer\":\"" ++ (keyer_word stats.now.settings.keyer ++ codes "\""))) }
+    ensures { OnOk result (out.new.items ≡ out.old.items ++ keyer_json stats.now) }
 {
     push_text(out, ",\"keyer\":\"")?;
     push_text(out, stats.settings.keyer.word())?;
@@ -74,7 +73,7 @@ fn push_bytes(out: &mut Vec<u8>, stats: &Stats) -> Result<(), AllocError>
 
 // Adds how many pages can't be split, and how many of these are full.
 fn push_limit(out: &mut Vec<u8>, stats: &Stats) -> Result<(), AllocError>
-    ensures { OnOk result (out.new.items ≡ out.old.items ++ (member_json (codes ",\"pages_at_limit\":") stats.now.at_limit ++ member_json (codes ",\"full_pages_at_limit\":") stats.now.full_at_limit)) }
+    ensures { OnOk result (out.new.items ≡ out.old.items ++ limit_json stats.now) }
 {
     push_member(out, ",\"pages_at_limit\":", stats.at_limit)?;
     push_member(out, ",\"full_pages_at_limit\":", stats.full_at_limit)
@@ -82,7 +81,7 @@ fn push_limit(out: &mut Vec<u8>, stats: &Stats) -> Result<(), AllocError>
 
 // Adds how many bytes the records take, and how many the pages' blocks.
 fn push_sizes(out: &mut Vec<u8>, stats: &Stats) -> Result<(), AllocError>
-    ensures { OnOk result (out.new.items ≡ out.old.items ++ (member_json (codes ",\"record_bytes\":") stats.now.record_bytes ++ member_json (codes ",\"page_bytes\":") stats.now.page_bytes)) }
+    ensures { OnOk result (out.new.items ≡ out.old.items ++ sizes_json stats.now) }
 {
     push_member(out, ",\"record_bytes\":", stats.record_bytes)?;
     push_member(out, ",\"page_bytes\":", stats.page_bytes)
@@ -110,7 +109,14 @@ fn push_depth(out: &mut Vec<u8>, stats: &Stats) -> Result<(), AllocError>
 fn push_longest(out: &mut Vec<u8>, prefix: &Prefix) -> Result<(), AllocError>
     ensures { OnOk result (out.new.items ≡ out.old.items ++ longest_json prefix.now) }
 {
-    if prefix.len() == 0 {
+    push_bits(out, prefix.len(), prefix)
+}
+
+// Adds a prefix of so many bits, unless there are none.
+fn push_bits(out: &mut Vec<u8>, bits: u8, prefix: &Prefix) -> Result<(), AllocError>
+    ensures { OnOk result (out.new.items ≡ out.old.items ++ prefix_json bits prefix.now) }
+{
+    if bits == 0 {
         return Ok(());
     }
     push_prefix(out, prefix)

@@ -1,4 +1,4 @@
-use Rattle.std.proofs.Common.{◌≡◌, ℕ, List, [], ◌∷◌, ◌++◌, length, sym, ap, ◌∙◌, subst, arith}
+use Rattle.std.proofs.Common.{◌≡◌, ℕ, ◌+◌, List, [], ◌∷◌, ◌++◌, length, sym, ap, ◌∙◌, subst, arith}
 use Rattle.std.specs.Prelude.{Option, option_to_list}
 use Rattle.std.proofs.KnownBytes.{Consumes-trans}
 use Rattle.std.proofs.lemmas.List.{length_push}
@@ -27,5 +27,6 @@ bytes-preserved g c =
           c.place_after-place.ensures ∙ ap (λ (p : Place). place_by c.args.format p byte) i.place
           ∙ sym (ap (λ (line : List ℕ). place_behind (place_by c.args.format) Start line) pushed ∙ place_of_more c.args.format c.bytes.self.line.items byte);
       one = subst (IsOneLine c.args.format) (sym pushed) (more_in_line c.args.format c.bytes.self.line.items byte i.one (λ is. sym i.place ∙ c.ends_line.ensures.amid c.if-ends_line.false is));
+      counted = ap length pushed ∙ length_push c.bytes.self.line.items byte ∙ ap (λ (n : ℕ). n + 1) i.counted;
       some = λ none. absurd (omega (arith, ap length (sym pushed ∙ none), length_push c.bytes.self.line.items byte));
     }

@@ -1,4 +1,4 @@
-use Rattle.std.proofs.Common.{◌≡◌, ◌≢◌, []}
+use Rattle.std.proofs.Common.{◌≡◌, ◌≢◌, [], length}
 use Rattle.exh_stream.specs.Source.{SameReader}
 use Rattle.exh_csv.specs.declared.place.Place.TheVariants.{Start}
 use Rattle.exh_csv.specs.Places.{place_behind}
@@ -15,4 +15,5 @@ invariant-bytes g l = record {
   place : l.place ≡ place_behind (place_by l.format) Start l.self.line.items;
   one : IsOneLine l.format l.self.line.items;
   some : l.self.line.items ≡ [] → waiting l.self ≢ [];
+  counted : length l.self.line.items ≡ l._byte;
 }
