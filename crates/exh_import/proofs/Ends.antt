@@ -54,13 +54,13 @@ read_cause refused options known lines store (OtherFormat found) cause = absurd 
 read_cause refused options known lines store Endless cause = absurd cause
 
 -- so of a line
-pub line_cause : {R : Type 0} (remaining : R → Option (List ℕ)) (number : ℕ) (old new : LineReader R) (fault : ImportFault) → IsReadCause new fault → IsLineCause remaining number old new fault
-line_cause remaining number old new Memory cause = tt
-line_cause remaining number old new Read cause = cause
-line_cause remaining number old new Refused cause = absurd cause
-line_cause remaining number old new (LongLine told) cause = absurd cause
-line_cause remaining number old new (OtherFormat found) cause = absurd cause
-line_cause remaining number old new Endless cause = absurd cause
+pub line_cause : {R : Type 0} (format : PairFormat) (remaining : R → Option (List ℕ)) (number : ℕ) (old new : LineReader R) (fault : ImportFault) → IsReadCause new fault → IsLineCause format remaining number old new fault
+line_cause format remaining number old new Memory cause = tt
+line_cause format remaining number old new Read cause = cause
+line_cause format remaining number old new Refused cause = absurd cause
+line_cause format remaining number old new (LongLine told) cause = absurd cause
+line_cause format remaining number old new (OtherFormat found) cause = absurd cause
+line_cause format remaining number old new Endless cause = absurd cause
 
 pub store_cause : {R S : Type 0} (refused : S → S → Type 0) (options : ImportOptions) (known : Option (List ℕ)) (lines : LineReader R) (store : S) (fault : ImportFault) → IsStoreCause refused store fault → IsCause refused options known lines store fault
 store_cause refused options known lines store Memory cause = tt

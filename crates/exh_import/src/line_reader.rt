@@ -54,11 +54,7 @@ impl<'r, R: Read> LineReader<'r, R> {
     }
 
     // Takes the next line, which has this number, where something of the text is left.
-    pub(crate) fn next_line(
-        &mut self,
-        format: PairFormat,
-        number: u64,
-    ) -> Result<(), ImportFault>
+    pub(crate) fn next_line(&mut self, format: PairFormat, number: u64) -> Result<(), ImportFault>
         requires ends { EndsRight R.remaining self.old }
         requires some { waiting self.old ≢ [] }
         ensures same_reader { SameReader self.old.source self.new.source }

@@ -330,13 +330,21 @@ const CSV: ImportOptions = ImportOptions {
 
 #[test]
 fn newlines_in_quotes_end_no_line(rt: HostRuntime) -> Result<(), Fail> {
-    let text = b"# exhash export csv\r\n\"a\nb\",\"\n\"\"\n\"\r\n\nk\"\nc\"d,\"1\n2\"3\n# exhash end 3\n";
+    let text =
+        b"# exhash export csv\r\n\"a\nb\",\"\n\"\"\n\"\r\n\nk\"\nc\"d,\"1\n2\"3\n# exhash end 3\n";
     for most in [1, 5, 10_000] {
         let mut store = FakeStore::new(rt.alloc());
         let mut told = Told {
             lines: Vec::new(rt.alloc()),
         };
-        let found = imported(rt.alloc(), text.as_slice(), most, CSV, &mut store, &mut told);
+        let found = imported(
+            rt.alloc(),
+            text.as_slice(),
+            most,
+            CSV,
+            &mut store,
+            &mut told,
+        );
         let Ok(found) = found else {
             return Err(Fail::new("the import failed"));
         };

@@ -34,12 +34,7 @@ pub fn line_of(
 
 // What a line reads as without what stands before its newline for some programs alone.
 #[tactic(auto, unfolding(crate::specs::Reading::text_read))]
-fn text_of(
-    alloc: Global,
-    format: PairFormat,
-    is_hex: bool,
-    line: &[u8],
-) -> Result<Line, AllocError>
+fn text_of(alloc: Global, format: PairFormat, is_hex: bool, line: &[u8]) -> Result<Line, AllocError>
     ensures { IfOk result (λ read. read ≡ text_read format is_hex line.now) }
 {
     if line.is_empty() {

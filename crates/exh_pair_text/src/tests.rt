@@ -160,7 +160,13 @@ const LINES: [Written; 19] = [
         b"v",
         b"{\"key_hex\":\"6b\",\"value_hex\":\"76\"}\n",
     ),
-    (PairFormat::Csv, false, b"ann", b"dark blue", b"ann,dark blue\n"),
+    (
+        PairFormat::Csv,
+        false,
+        b"ann",
+        b"dark blue",
+        b"ann,dark blue\n",
+    ),
     (
         PairFormat::Csv,
         false,
@@ -169,7 +175,13 @@ const LINES: [Written; 19] = [
         b"\"say \"\"no\"\"\",\"1,2\r\n\"\n",
     ),
     (PairFormat::Csv, false, b"#", b"", b"\"#\",\n"),
-    (PairFormat::Csv, false, b"\x00", b"\xff\xc3", b"\x00,\xff\xc3\n"),
+    (
+        PairFormat::Csv,
+        false,
+        b"\x00",
+        b"\xff\xc3",
+        b"\x00,\xff\xc3\n",
+    ),
     (PairFormat::Csv, true, b"\",", b"", b"222c,\n"),
 ];
 
@@ -232,7 +244,13 @@ const READ: [Written; 15] = [
     (PairFormat::Csv, false, b"a", b"", b"a,\r"),
     (PairFormat::Csv, false, b"a\"b", b" \"c\"", b"a\"b, \"c\""),
     (PairFormat::Csv, false, b"a", b"b\r", b"a,b\r\r"),
-    (PairFormat::Csv, false, b"# exhash end 1", b"", b"# exhash end 1,"),
+    (
+        PairFormat::Csv,
+        false,
+        b"# exhash end 1",
+        b"",
+        b"# exhash end 1,",
+    ),
     (PairFormat::Csv, true, b"\xab", b"\xcd", b"\"aB\",Cd\r"),
 ];
 
@@ -432,12 +450,7 @@ const WRONG: [Refused; 40] = [
         b"ann,\"red\"\r\r",
         WrongLine::NoRecord(WrongRecord::BehindQuote { at: 10 }),
     ),
-    (
-        PairFormat::Csv,
-        true,
-        b"6,61",
-        WrongLine::NoHex(Field::Key),
-    ),
+    (PairFormat::Csv, true, b"6,61", WrongLine::NoHex(Field::Key)),
     (
         PairFormat::Csv,
         true,

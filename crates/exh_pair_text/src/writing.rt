@@ -9,8 +9,8 @@ ghost use Rattle.exh_pair_text.specs.Lines.{csv_words, end_line, field_text, ope
 use crate::PairFormat;
 use crate::byte_text::{push_byte, push_digits};
 use crate::json_object::push_object;
-use exh_csv::push_field as push_csv_field;
 use crate::separated::Separated;
+use exh_csv::push_field as push_csv_field;
 use exh_text::{push_number, push_text, push_value};
 use std::alloc::AllocError;
 
@@ -108,12 +108,7 @@ fn push_escaped(text: &mut Vec<u8>, bytes: &[u8]) -> Result<(), AllocError>
 }
 
 // Adds a record of two fields.
-fn push_record(
-    text: &mut Vec<u8>,
-    is_hex: bool,
-    key: &[u8],
-    value: &[u8],
-) -> Result<(), AllocError>
+fn push_record(text: &mut Vec<u8>, is_hex: bool, key: &[u8], value: &[u8]) -> Result<(), AllocError>
     ensures ok { OnOk result (text.new.items ≡ text.old.items ++ csv_words is_hex key.now value.now) }
     ensures kept { Keeps text.old.items text.new.items }
 {
