@@ -10,7 +10,6 @@ use Rattle.exh_page.specs.declared.page.Page.{Page}
 use Rattle.exh_page.specs.declared.page.Page.TheVariants.{Live, Forward}
 use Rattle.exh_page.specs.declared.record.Record.{Record}
 use Rattle.exh_page.specs.KeyMap.{pair_of}
-use Rattle.exh_codec.specs.Block.{IsSealed}
 use Rattle.exh_codec.specs.Cells.{Pair}
 use Rattle.exh_codec.specs.CodecLaws.{BlocksAreRead, ImagesAreSealed}
 use Rattle.exh_salvage.specs.Blocks.{block_at}
@@ -18,7 +17,6 @@ use Rattle.exh_salvage.specs.SavedBlock.{IsNoPage, pairs_of, saved_pair, saved_p
 use Rattle.exh_salvage.specs.Salvage.{IsSalvage, IsSavedBlock}
 use Rattle.exh_salvage.specs.WholeLaws.{IsPageOfAny, IsWhole, Stands, both_of, pairs_within}
 use Rattle.exh_salvage.specs.declared.salvage.Salvage.{Salvage}
-use Rattle.exh_salvage.specs.declared.salvage.SavedPair.{SavedPair}
 use Rattle.exh_salvage.proofs.SavedPages.{live_page, same_pairs}
 
 both_back : (place : ℕ) (records : List Record) → map both_of (map (saved_pair place) records) ≡ map pair_of records

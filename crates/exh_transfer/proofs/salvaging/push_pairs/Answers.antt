@@ -1,4 +1,4 @@
-use Rattle.std.proofs.Common.{◌≡◌, ◌∙◌, ℕ, List, [], ◌∷◌, ◌++◌, ap, sym, flat_map, map}
+use Rattle.std.proofs.Common.{◌∙◌, ℕ, List, ◌++◌, ap, sym, flat_map, map}
 use Rattle.std.proofs.lemmas.List.{map_push}
 use Rattle.exh_run.specs.LineLemmas.{next_all}
 use Rattle.exh_transfer.specs.Exports.{line_of_pair}
