@@ -8,7 +8,7 @@ pub const USAGE: &str = "exhash salvage PATH [--format words|tsv|jsonl] [--hex] 
 
 Examples:
   exhash salvage people.exh > people.text
-  exhash import people.new --create < people.text
+  exhash salvage people.exh | exhash import people.new --create
   exhash salvage people.exh --format jsonl --bare";
 
 /// What help says behind its options.
