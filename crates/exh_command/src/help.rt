@@ -6,8 +6,9 @@ ghost use Rattle.exh_command.specs.CommandFault.{IsWrong, TellsVersion};
 use crate::fault::CliFault;
 use crate::names::{
     ATOMIC, BACKUP, BARE, CAP, CHECK, COMPACT, CONVERT, CREATE, CREATE_FLAG, DEL, DUMP, EXPORT,
-    FILE, FORMAT, FROM, GET, HELP, HEX, IMPORT, JSON, KEYER, KEYER_NAME, LOAD, MANUAL, NEW_FLAG, NUMBER,
-    PAIRS, PROGRAM, PUT, RAW, REJECTS, REPLACE, SALVAGE, SERVE, STATS, STORM, SWAP, VERSION, WAIT, WARDS,
+    FILE, FORMAT, FROM, GET, HELP, HEX, IMPORT, JSON, KEYER, KEYER_NAME, LOAD, MANUAL, NEW_FLAG,
+    NUMBER, PAIRS, PROGRAM, PUT, RAW, REJECTS, REPLACE, SALVAGE, SERVE, STATS, STORM, SWAP,
+    VERSION, WAIT, WARDS,
 };
 use crate::parser::{
     bare_command, bare_program, check, convert, dump, flag, load, manual, option, pairs, serve,
