@@ -142,12 +142,14 @@ abbrev pub csv_bytes : Field → Bool → List ℕ → Result (List ℕ) WrongLi
 csv_bytes field true digits = hex_bytes field digits
 csv_bytes field false bytes = Ok bytes
 
-unfoldable pub fields_pair : Bool → List (List ℕ) → Result (List ℕ × List ℕ) WrongLine
-fields_pair hex fields = do
-  two ← two_fields fields
-  key ← csv_bytes Key hex two.0 >>= key_of_bytes
-  value ← csv_bytes Value hex two.1 >>= value_of_bytes
+abbrev pub two_spelled : Bool → List ℕ → List ℕ → Result (List ℕ × List ℕ) WrongLine
+two_spelled hex first second = do
+  key ← csv_bytes Key hex first >>= key_of_bytes
+  value ← csv_bytes Value hex second >>= value_of_bytes
   Ok (key, value)
+
+unfoldable pub fields_pair : Bool → List (List ℕ) → Result (List ℕ × List ℕ) WrongLine
+fields_pair hex fields = two_fields fields >>= λ two. two_spelled hex two.0 two.1
 
 -- the pair of a record of two fields
 unfoldable pub csv_pair : Bool → List ℕ → Result (List ℕ × List ℕ) WrongLine

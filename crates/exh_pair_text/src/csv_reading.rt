@@ -1,6 +1,6 @@
 //! The pair of a line that is a record of comma-separated fields.
 ghost use Rattle.std.specs.Prelude.{◌≡◌, map, IfOk};
-ghost use Rattle.exh_pair_text.specs.Reading.{csv_bytes, csv_pair, fields_pair};
+ghost use Rattle.exh_pair_text.specs.Reading.{csv_bytes, csv_pair, fields_pair, two_spelled};
 ghost use Rattle.exh_pair_text.specs.Spelled.{all_spelled};
 
 use crate::spelled::Spelled;
@@ -29,11 +29,18 @@ pub(crate) fn csv_pair(
 fn fields_pair(is_hex: bool, fields: &[Vec<u8>]) -> Result<(Key, Value), WrongLine>
     ensures { result ≡ fields_pair is_hex (map (λ field. field.items) fields.now) }
 {
-    let [key, value] = fields else {
-        return Err(WrongLine::Fields {
+    match fields {
+        [key, value] => two_spelled(is_hex, key, value),
+        _ => Err(WrongLine::Fields {
             count: fields.len(),
-        });
-    };
+        }),
+    }
+}
+
+// The pair that a key and a value spell.
+fn two_spelled(is_hex: bool, key: &[u8], value: &[u8]) -> Result<(Key, Value), WrongLine>
+    ensures { result ≡ two_spelled is_hex key.now value.now }
+{
     let key = csv_bytes(Field::Key, is_hex, key)?.key()?;
     let value = csv_bytes(Field::Value, is_hex, value)?.value()?;
     Ok((key, value))
