@@ -53,17 +53,17 @@ returns-then-is_over-clause-pairs g c =
 pub returns-then-is_over-2-clause-imports : goal.returns-then-is_over-2-clause-imports
 returns-then-is_over-2-clause-imports g c =
     let whole = c.lines.invariant.over c.if-is_over-2.true in
-    if_ok_map c.finish-2.result _ _ c.finish-2.ensures.finished (λ imported finishes.
+    if_ok_map c.finish-then-is_over-2.result _ _ c.finish-then-is_over-2.ensures.finished (λ imported finishes.
     (whole.lines, (whole.text, record { next = record { taking = c.lines.taking; store = c.lines.store; listener = c.lines.listener }; takes = whole.takes; finishes = finishes; listener_is = refl })))
 
 pub returns-then-is_over-2-clause-pairs : goal.returns-then-is_over-2-clause-pairs
 returns-then-is_over-2-clause-pairs g c =
     let whole = c.lines.invariant.over c.if-is_over-2.true in
-    if_ok_map c.finish-2.result _ _ c.finish-2.ensures.finished (λ imported finishes. (
+    if_ok_map c.finish-then-is_over-2.result _ _ c.finish-then-is_over-2.ensures.finished (λ imported finishes. (
       whole.lines,
       (
         whole.text,
-        imports_put g.S.ImportedStore.gives g.S.ImportedStore.saves g.S.ImportedStore.rests g.L.Rejects.told c.args.options c.args.store.now c.args.listener.now whole.lines imported c.finish-2.new.store c.lines.listener
+        imports_put g.S.ImportedStore.gives g.S.ImportedStore.saves g.S.ImportedStore.rests g.L.Rejects.told c.args.options c.args.store.now c.args.listener.now whole.lines imported c.finish-then-is_over-2.new.store c.lines.listener
             (record { next = record { taking = c.lines.taking; store = c.lines.store; listener = c.lines.listener }; takes = whole.takes; finishes = finishes; listener_is = refl }),
       ),
     ))
