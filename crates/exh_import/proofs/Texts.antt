@@ -100,6 +100,10 @@ module _ {S L : Type 0} (gives : S → List ℕ → List ℕ → Added → S →
     pub amid_start : (lines : LineReader R) → Keeps known (text_left remaining lines) → IsAmid lines start
     amid_start lines kept = record { front = []; one = tt; given = Consumes-kept known known (text_left remaining lines) [] (Consumes-nil known) kept; takes = refl }
 
+    pub amid_none : (lines : LineReader R) → Keeps known (text_left remaining lines) → (amid : IsAmid lines start) × (length amid.front ≡ 0)
+    unfolding amid_start
+    amid_none lines kept = (amid_start lines kept, refl)
+
     pub whole_start : (lines : LineReader R) → Keeps known (text_left remaining lines) → EndsRight remaining lines → IsOver lines → IsWhole start
     whole_start lines kept ends over = record {
       lines = [];
@@ -121,6 +125,7 @@ module _ {S L : Type 0} (gives : S → List ℕ → List ℕ → Added → S →
     -- one line more
     pub amid_more : (old new : LineReader R) (now next : Point S L) (amid : IsAmid old now) (count : ℕ) → length amid.front ≡ count → TakesNext format remaining old new → (IsOver new → ⊥) → TakesLine gives saves rests told false new.line.items now next
         → (after : IsAmid new next) × (length after.front ≡ count + 1)
+    unfolding amid_step
     amid_more old new now next amid count is (one, taken) more takes = elim taken [
       | inl given ↦ (amid_step old new now next amid (one, inl given) more takes, length_push amid.front new.line.items ∙ ap (λ (n : ℕ). n + 1) is)
       | inr last ↦ absurd (more last.2)

@@ -2,11 +2,12 @@ use Rattle.std.proofs.Common.{◌≡◌, refl, sym, ap, ◌∙◌, subst, length
 use Rattle.std.specs.Io.KnownBytes.{Keeps}
 use Rattle.std.proofs.lemmas.Result.{IfErr-weaker}
 use Rattle.exh_import.specs.declared.taking.Taking.{Taking}
+use Rattle.exh_import.specs.Causes.{IsCause}
 use Rattle.exh_import.specs.Counting.{starts}
 use Rattle.exh_import.specs.Imports.{Point, TakesLine}
 use Rattle.exh_import.specs.LineReader.{text_left}
 use Rattle.exh_import.proofs.Ends.{err_as, has_lines, next_cause, read_cause, store_cause}
-use Rattle.exh_import.proofs.Texts.{IsAmid, IsWhole, amid_more, amid_start, if_ok_map, whole_start, whole_step}
+use Rattle.exh_import.proofs.Texts.{IsAmid, IsWhole, amid_more, amid_none, if_ok_map, whole_start, whole_step}
 use Rattle.exh_import.proofs.Puts.{imports_put}
 use Rattle.exh_import.proofs.importing.import.Goals as goal
 
@@ -27,7 +28,7 @@ lines-init g c =
       over = λ is. subst (λ (t : Taking). IsWhole G V W T c.args.options.format R known start (record { taking = t; store = c.args.store.now; listener = c.args.listener.now })) (sym c.new-taking.ensures) (whole_start G V W T c.args.options.format R known start now kept c.in_ok-is_over.ensures.ends (c.in_ok-is_over.ensures.over is));
       amid = λ is. (
         c.in_ok-is_over.ensures.some is,
-        subst (λ (t : Taking). (amid : IsAmid G V W T c.args.options.format R known start now (record { taking = t; store = c.args.store.now; listener = c.args.listener.now })) × (length amid.front ≡ 0)) (sym c.new-taking.ensures) (amid_start G V W T c.args.options.format R known start now kept, refl),
+        subst (λ (t : Taking). (amid : IsAmid G V W T c.args.options.format R known start now (record { taking = t; store = c.args.store.now; listener = c.args.listener.now })) × (length amid.front ≡ 0)) (sym c.new-taking.ensures) (amid_none G V W T c.args.options.format R known start now kept),
       );
     }
 
@@ -48,6 +49,38 @@ returns-then-is_over-clause-pairs g c =
             (record { next = record { taking = c.lines.taking; store = c.lines.store; listener = c.lines.listener }; takes = whole.takes; finishes = finishes; listener_is = refl }),
       ),
     ))
+
+pub returns-then-is_over-2-clause-imports : goal.returns-then-is_over-2-clause-imports
+returns-then-is_over-2-clause-imports g c =
+    let whole = c.lines.invariant.over c.if-is_over-2.true in
+    if_ok_map c.finish-then-is_over-2.result _ _ c.finish-then-is_over-2.ensures.finished (λ imported finishes.
+    (whole.lines, (whole.text, record { next = record { taking = c.lines.taking; store = c.lines.store; listener = c.lines.listener }; takes = whole.takes; finishes = finishes; listener_is = refl })))
+
+pub returns-then-is_over-2-clause-pairs : goal.returns-then-is_over-2-clause-pairs
+returns-then-is_over-2-clause-pairs g c =
+    let whole = c.lines.invariant.over c.if-is_over-2.true in
+    if_ok_map c.finish-then-is_over-2.result _ _ c.finish-then-is_over-2.ensures.finished (λ imported finishes. (
+      whole.lines,
+      (
+        whole.text,
+        imports_put g.S.ImportedStore.gives g.S.ImportedStore.saves g.S.ImportedStore.rests g.L.Rejects.told c.args.options c.args.store.now c.args.listener.now whole.lines imported c.finish-then-is_over-2.new.store c.lines.listener
+            (record { next = record { taking = c.lines.taking; store = c.lines.store; listener = c.lines.listener }; takes = whole.takes; finishes = finishes; listener_is = refl }),
+      ),
+    ))
+
+-- why the next line ended it
+pub returns-in_err-is_over-2-clause-cause : goal.returns-in_err-is_over-2-clause-cause
+returns-in_err-is_over-2-clause-cause g c =
+    let F = g.S.ImportedStore.refused in
+    let R = g.R.Read.remaining in
+    let known = text_left R c.args.lines.now in
+    let new = c.take_next.new.lines in
+    let store = c.take_next.new.store in
+    let fault = c.in_err-is_over-2.field-0.0 in
+    let now : Point g.row.S.Denot g.row.L.Denot = record { taking = c.lines.taking; store = c.lines.store; listener = c.lines.listener } in
+    err_as c.from_residual-in_err-is_over-2.result fault (IsCause F c.args.options known new store) c.from_residual-in_err-is_over-2.ensures.1
+    (next_cause g.S.ImportedStore.gives g.S.ImportedStore.saves g.S.ImportedStore.rests F g.L.Rejects.told R known c.args.options c.args.store.now c.args.listener.now c.lines.lines new now store fault
+    (c.lines.invariant.amid c.if-is_over.false).1.0 c.in_err-is_over-2.ensures.cause)
 
 pub take_next-requires-clause-ends : goal.take_next-requires-clause-ends
 take_next-requires-clause-ends g c = c.lines.invariant.ends
