@@ -16,12 +16,12 @@ bytes-preserved g c =
     let i = c.bytes.invariant in
     let now = c.next_byte.new.self in
     let byte = c.in-Some.byte in
-    let items : now.line.items ≡ c.bytes.self.line.items = ap (λ line. line.items) c.in_ok-next_byte.ensures.line in
+    let items : now.line.items ≡ c.bytes.self.line.items = ap (λ line. line.items) c.in_ok-byte.ensures.line in
     let pushed : c.push_byte.new.line.items ≡ c.bytes.self.line.items ++ byte ∷ [] = c.in_ok-push_byte.ensures ∙ ap (λ (line : List ℕ). line ++ byte ∷ []) items in
-    let one = subst (λ (o : Option ℕ). AreTaken R c.bytes.self now (option_to_list o)) c.in-Some.is c.in_ok-next_byte.ensures.taken in
+    let one = subst (λ (o : Option ℕ). AreTaken R c.bytes.self now (option_to_list o)) c.in-Some.is c.in_ok-byte.ensures.taken in
     record {
-      same_reader = c.in_ok-next_byte.ensures.same_reader ∙ i.same_reader;
-      ends = c.in_ok-next_byte.ensures.ends;
+      same_reader = c.in_ok-byte.ensures.same_reader ∙ i.same_reader;
+      ends = c.in_ok-byte.ensures.ends;
       taken = subst (AreTaken R c.args.self.now now) (sym pushed) (Consumes-trans (text_left R c.args.self.now) (text_left R c.bytes.self) (text_left R now) c.bytes.self.line.items (byte ∷ []) i.taken one);
       place =
           c.place_after-place.ensures ∙ ap (λ (p : Place). place_by c.args.format p byte) i.place
