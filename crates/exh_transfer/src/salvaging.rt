@@ -98,6 +98,7 @@ fn salvage_status(salvage: &Salvage) -> Status
 }
 
 // The text of the pairs.
+#[tactic(auto, using(crate::proofs::Lines::pairs_counted))]
 fn salvage_text(
     alloc: Global,
     format: PairFormat,
