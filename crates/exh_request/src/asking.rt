@@ -110,8 +110,8 @@ fn request_by<'w>(
 
 // The path of the file that names lines.
 fn rejects_of(word: Option<&[u8]>) -> Result<Option<&str>, WrongCause>
-    ensures ok { IfOk result (λ path. rejects_asked (option_map (λ word. word.now) word) ≡ Ok (option_map (λ path. path.now) path)) }
-    ensures wrong { IfErr result (λ cause. rejects_asked (option_map (λ word. word.now) word) ≡ Err cause) }
+    ensures ok { IfOk result (λ path. rejects_asked (option_map (λ word. word.now) word.entry) ≡ Ok (option_map (λ path. path.now) path)) }
+    ensures wrong { IfErr result (λ cause. rejects_asked (option_map (λ word. word.now) word.entry) ≡ Err cause) }
 {
     let Some(word) = word else {
         return Ok(None);
@@ -130,8 +130,8 @@ fn action_of<'w>(
     options: &Options,
     rejects: Option<&'w str>,
 ) -> Result<Action<'w>, CauseOrMemory>
-    ensures ok { IfOk result (λ done. action_asked command options.now (option_map (λ path. path.now) rejects) (map placed_word places.now) ≡ Ok (action_text done)) }
-    ensures wrong { IfErr result (IsCauseOf (action_asked command options.now (option_map (λ path. path.now) rejects) (map placed_word places.now))) }
+    ensures ok { IfOk result (λ done. action_asked command options.now (option_map (λ path. path.now) rejects.entry) (map placed_word places.now) ≡ Ok (action_text done)) }
+    ensures wrong { IfErr result (IsCauseOf (action_asked command options.now (option_map (λ path. path.now) rejects.entry) (map placed_word places.now))) }
 {
     match command {
         EverydayCommand::Create => create(places, options),
@@ -177,8 +177,8 @@ fn import<'w>(
     options: &Options,
     rejects: Option<&'w str>,
 ) -> Result<Action<'w>, CauseOrMemory>
-    ensures ok { IfOk result (λ done. import_asked options.now (option_map (λ path. path.now) rejects) (map placed_word places.now) ≡ Ok (action_text done)) }
-    ensures wrong { IfErr result (IsCauseOf (import_asked options.now (option_map (λ path. path.now) rejects) (map placed_word places.now))) }
+    ensures ok { IfOk result (λ done. import_asked options.now (option_map (λ path. path.now) rejects.entry) (map placed_word places.now) ≡ Ok (action_text done)) }
+    ensures wrong { IfErr result (IsCauseOf (import_asked options.now (option_map (λ path. path.now) rejects.entry) (map placed_word places.now))) }
 {
     match places {
         [] if options.given.is_some() && !options.is_create => {
