@@ -79,5 +79,5 @@ RunEnds form (actions.Backup path) old new failed status = (new ≡ old) × Back
 RunEnds form (actions.Import words rejects) old new failed status = ImportEnds old new failed status
 RunEnds form (actions.Export format bare) old new failed status = ExportEnds format form.is_hex bare old new failed status
 RunEnds form (actions.Compact given) old new failed status = CompactEnds old new failed status
-RunEnds form (actions.Stats json) old new failed status = StatsEnd json old new failed status
+RunEnds form (actions.Stats json) old new failed status = StatsEnd old new failed status
 RunEnds form (actions.Salvage format bare) old new failed status = SalvageEnds format form.is_hex bare old new failed status

@@ -2,4 +2,3 @@
 pub mod Shape
 pub mod Stats
 pub mod Text
-pub mod Json

@@ -1,9 +1,7 @@
 //! The run of a `stats`.
-ghost use Rattle.std.specs.Prelude.{◌≡◌, [], IfOk, IsFalse};
+ghost use Rattle.std.specs.Prelude.{◌≡◌, [], IsFalse};
 ghost use Rattle.exh_stream.specs.Output.{SameWriter, held, pending, writer_failed};
-ghost use Rattle.exh_answer.specs.declared.status.Status.TheVariants.{Done};
-ghost use Rattle.exh_run.specs.Ends.{Ends, Says};
-ghost use Rattle.exh_transfer.specs.Counts.{StatsEnd, numbers_text, stats_ended};
+ghost use Rattle.exh_transfer.specs.Counts.{SaysText, StatsEnd, StatsEnds};
 
 use exh_answer::Status;
 use exh_run::{Run, refuse_reading, tell_text};
@@ -18,7 +16,7 @@ pub fn stats<W: Write>(run: &Run<'_>, is_json: bool, output: &mut Output<'_, W>)
     requires open { IsFalse (writer_failed output.old) }
     requires empty { pending output.old ≡ [] }
     ensures same_writer { SameWriter output.old output.new }
-    ensures ends { StatsEnd is_json (held W.contents output.old) (held W.contents output.new) (writer_failed output.new) result }
+    ensures ends { StatsEnd (held W.contents output.old) (held W.contents output.new) (writer_failed output.new) result }
 {
     let stats = stats_at(run.rt, run.path, run.seconds);
     end_stats(run, is_json, stats, output)
@@ -34,7 +32,7 @@ fn end_stats<W: Write>(
     requires open { IsFalse (writer_failed output.old) }
     requires empty { pending output.old ≡ [] }
     ensures same_writer { SameWriter output.old output.new }
-    ensures ends { Ends (stats_ended is_json stats) (held W.contents output.old) (held W.contents output.new) (writer_failed output.new) result }
+    ensures ends { StatsEnds stats (held W.contents output.old) (held W.contents output.new) (writer_failed output.new) result }
 {
     match stats {
         Ok(stats) => tell_stats(run, is_json, &stats, output),
@@ -52,16 +50,14 @@ fn tell_stats<W: Write>(
     requires open { IsFalse (writer_failed output.old) }
     requires empty { pending output.old ≡ [] }
     ensures same_writer { SameWriter output.old output.new }
-    ensures ends { Ends (Says (numbers_text is_json stats.now) Done) (held W.contents output.old) (held W.contents output.new) (writer_failed output.new) result }
+    ensures ends { SaysText (held W.contents output.old) (held W.contents output.new) (writer_failed output.new) result }
 {
-    let text = numbers_text(run.rt.alloc(), is_json, stats);
+    let text = stats_text(run.rt.alloc(), is_json, stats);
     tell_text(run, text, Status::Done, false, output)
 }
 
 // What is printed of it.
-fn numbers_text(alloc: Global, is_json: bool, stats: &Stats) -> Result<Vec<u8>, AllocError>
-    ensures { IfOk result (λ text. text.items ≡ numbers_text is_json stats.now) }
-{
+fn stats_text(alloc: Global, is_json: bool, stats: &Stats) -> Result<Vec<u8>, AllocError> {
     if is_json {
         json_of(alloc, stats)
     } else {
