@@ -29,9 +29,14 @@ pub(crate) fn end_import<W: Write>(
     ensures same_writer { SameWriter output.old output.new }
     ensures ends { Ends (import_ended outcome) (held W.contents output.old) (held W.contents output.new) (writer_failed output.new) result }
 {
-    match outcome.imported {
-        Ok(done) => end_done(run, &done, outcome.is_made, outcome.is_unwritten, output),
-        Err(refusal) => refuse_import(run, refusal, outcome.is_made, reason),
+    let Outcome {
+        imported,
+        is_made,
+        is_unwritten,
+    } = outcome;
+    match imported {
+        Ok(done) => end_done(run, &done, is_made, is_unwritten, output),
+        Err(refusal) => refuse_import(run, refusal, is_made, reason),
     }
 }
 

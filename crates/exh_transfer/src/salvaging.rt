@@ -1,9 +1,8 @@
 //! The run of a salvage.
-ghost use Rattle.std.specs.Prelude.{◌≡◌, ◌++◌, [], flat_map, map, IfOk, IsFalse, OnOk};
+ghost use Rattle.std.specs.Prelude.{◌≡◌, ◌++◌, [], flat_map, IfOk, IsFalse, OnOk};
 ghost use Rattle.exh_stream.specs.Output.{SameWriter, held, pending, writer_failed};
 ghost use Rattle.exh_run.specs.Ends.{Ends};
-ghost use Rattle.exh_transfer.specs.Exports.{export_text, line_of_pair};
-ghost use Rattle.exh_transfer.specs.Salvages.{SalvageEnds, both_of, pairs_in, salvage_ended, salvage_status};
+ghost use Rattle.exh_transfer.specs.Salvages.{SalvageEnds, line_of_saved, salvage_ended, salvage_status, saved_text};
 
 use crate::open_blocks::OpenBlocks;
 use crate::salvage_notes::tell_salvage;
@@ -76,13 +75,7 @@ fn tell_pairs<W: Write>(
     ensures same_writer { SameWriter output.old output.new }
     ensures ends { Ends (salvage_ended format run.now.form.is_hex is_bare (Ok salvage.now)) (held W.contents output.old) (held W.contents output.new) (writer_failed output.new) result }
 {
-    let text = salvage_text(
-        run.rt.alloc(),
-        format,
-        run.form.is_hex,
-        is_bare,
-        &salvage.pairs,
-    );
+    let text = salvage_text(run.rt.alloc(), format, run.form.is_hex, is_bare, salvage);
     tell_text(run, text, salvage_status(salvage), false, output)
 }
 
@@ -98,24 +91,23 @@ fn salvage_status(salvage: &Salvage) -> Status
 }
 
 // The text of the pairs.
-#[tactic(auto, using(crate::proofs::Lines::pairs_counted))]
 fn salvage_text(
     alloc: Global,
     format: PairFormat,
     is_hex: bool,
     is_bare: bool,
-    pairs: &[SavedPair],
+    salvage: &Salvage,
 ) -> Result<Vec<u8>, AllocError>
-    ensures { IfOk result (λ text. text.items ≡ export_text format is_hex is_bare (map both_of pairs.now)) }
+    ensures { IfOk result (λ text. text.items ≡ saved_text format is_hex is_bare salvage.now.pairs.items) }
 {
     let mut text = Vec::new(alloc);
     if is_bare {
-        push_pairs(&mut text, format, is_hex, pairs)?;
+        push_pairs(&mut text, format, is_hex, &salvage.pairs)?;
         return Ok(text);
     }
     push_opening(&mut text, format)?;
-    push_pairs(&mut text, format, is_hex, pairs)?;
-    push_end(&mut text, format, pairs.len() as u64)?;
+    push_pairs(&mut text, format, is_hex, &salvage.pairs)?;
+    push_end(&mut text, format, salvage.pairs.len() as u64)?;
     Ok(text)
 }
 
@@ -126,7 +118,7 @@ fn push_pairs(
     is_hex: bool,
     pairs: &[SavedPair],
 ) -> Result<(), AllocError>
-    ensures { OnOk result (text.new.items ≡ text.old.items ++ flat_map (line_of_pair format is_hex) (map both_of pairs.now)) }
+    ensures { OnOk result (text.new.items ≡ text.old.items ++ flat_map (line_of_saved format is_hex) pairs.now) }
 {
     for pair in pairs {
         push_line(text, format, is_hex, pair)?;
@@ -141,7 +133,7 @@ fn push_line(
     is_hex: bool,
     pair: &SavedPair,
 ) -> Result<(), AllocError>
-    ensures { OnOk result (text.new.items ≡ text.old.items ++ line_of_pair format is_hex (both_of pair.now)) }
+    ensures { OnOk result (text.new.items ≡ text.old.items ++ line_of_saved format is_hex pair.now) }
 {
     push_pair(
         text,
