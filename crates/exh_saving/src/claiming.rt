@@ -256,6 +256,7 @@ pub(crate) fn see_own<D: Disk>(
     name: &str,
 ) -> Result<(), DiskFault>
     ensures ok { OnOk result (D.stage file.new ≡ asked (D.stage file.old) true) }
+    ensures bears { OnOk result (D.bears file.new name.now) }
     ensures err { OnErr result (D.stage file.new ≡ D.stage file.old) }
     ensures why { IfErr result (IsNotOwn D.answers name.now) }
     ensures bytes { D.holds file.new ≡ D.holds file.old }
