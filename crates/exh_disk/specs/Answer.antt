@@ -13,15 +13,18 @@ use Rattle.exh_disk.specs.declared.found.Found.{Found}
 use Rattle.exh_disk.specs.declared.found.Head.{Head}
 use Rattle.exh_disk.specs.declared.found.Runner.{Runner}
 
--- A path leads to this; this has a name, itself a link where it is one, or nothing has it; a file begins so; another file
--- than the one that is asked about has a name, or it changed; what a path leads to is a regular file; for whom the program
--- runs; a file was given this owner and group, or these permissions; a call failed so.
+-- A path leads to this; this has a name, itself a link where it is one, or nothing has it; a file begins so; the file that is
+-- asked about has a name, and is as it was; another has it, or it changed; a save's own file was made under a name, or is the
+-- one of it; what a path leads to is a regular file; for whom the program runs; a file was given this owner and group, or these
+-- permissions; a call failed so.
 pub data Answer : Type 0 where
   Leads : List ℕ → Found → Answer
   Named : List ℕ → Found → Answer
   Unnamed : List ℕ → Answer
   Begins : List ℕ → Head → Answer
+  Stays : List ℕ → Found → Answer
   Strange : List ℕ → Answer
+  Owned : List ℕ → Answer
   IsRegular : List ℕ → Answer
   Runs : Runner → Answer
   Gives : Option ℕ → Option ℕ → Answer

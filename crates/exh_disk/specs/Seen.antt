@@ -1,7 +1,7 @@
 -- What a save may replace, by a file that was opened before.
 use Rattle.std.specs.Prelude.{◌≡◌, ◌≢◌, ◌⊎◌, ℕ, Bool, true, IfErr, IfOk, IfSome, IsOkAnd, IsSomeAnd, List, MatchResult, Option, string_bytes}
 use Rattle.std.specs.declared.io.Error.{Error}
-use Rattle.exh_disk.specs.Answer.{Answer, Fails, IsHoldTold, IsTold, LeadsElsewhere, Strange}
+use Rattle.exh_disk.specs.Answer.{Answer, Fails, IsHoldTold, IsTold, LeadsElsewhere, Stays, Strange}
 use Rattle.exh_disk.specs.DiskFault.{told}
 use Rattle.exh_disk.specs.Found.{IsSame, IsUnchanged}
 use Rattle.exh_disk.specs.declared.fault.Call.TheVariants.{Ask}
@@ -51,10 +51,11 @@ MayBeSeen answers finds seen named there = (string_bytes seen.named ≡ named)
 abbrev pub IsGone : (List ℕ → List ℕ → Type 0) → (Answer → Type 0) → List ℕ → List ℕ → Type 0
 IsGone leads answers named path = LeadsElsewhere leads answers named path ⊎ answers (Strange path)
 
--- What taking a lock came to: it is had while the file stands at its path without links; or the file is no regular one, or
--- no longer there as it was.
+-- What taking a lock came to: it is had while the file stands at its path without links, as it was; or the file is no regular
+-- one, or no longer there as it was.
 abbrev pub IsLocked : {O H : Type 0} → (List ℕ → List ℕ → Type 0) → (Answer → Type 0) → (H → List ℕ → Bool) → Seen O → Lock H → Type 0
-IsLocked leads answers stands seen (Taken held) = IsOkAnd seen.about (λ about. (about.found.kind ≡ Regular) × (stands held (string_bytes about.path) ≡ true))
+IsLocked leads answers stands seen (Taken held) = IsOkAnd seen.about (λ about. (about.found.kind ≡ Regular) × (stands held (string_bytes about.path) ≡ true)
+    × answers (Stays (string_bytes about.path) about.found))
 IsLocked leads answers stands seen Needless = IsOkAnd seen.about (λ about. about.found.kind ≢ Regular)
 IsLocked leads answers stands seen Gone = IsOkAnd seen.about (λ about. (about.found.kind ≡ Regular) × IsGone leads answers (string_bytes seen.named) (string_bytes about.path))
 

@@ -3,7 +3,8 @@ ghost use Rattle.std.specs.Prelude.{◌≡◌, ◌≢◌, ℕ, Bool, IfErr, IfNo
 ghost use Rattle.std.specs.IoError.{error_kind};
 ghost use Rattle.std.specs.declared.io.ErrorKind.TheVariants.{NotFound};
 ghost use Rattle.exh_disk.specs.declared.found.Found.{Found};
-ghost use Rattle.exh_disk.specs.Answer.{Answer, Begins, Fails, Gives, IsRegular, Leads, Named, Permits, Runs, Strange, Unnamed};
+ghost use Rattle.exh_disk.specs.Answer.{Answer, Begins, Fails, Gives, IsRegular, Leads, Named, Owned, Permits, Runs, Stays, Strange, Unnamed};
+ghost use Rattle.exh_disk.specs.Found.{IsSame};
 ghost use Rattle.exh_disk.specs.declared.stage.Stage.{Stage};
 ghost use Rattle.exh_disk.specs.declared.stage.Stage.TheVariants.{Confirmed, Dressed, Empty, Left, Linked, Made, OwnLeft, Placed, Restricted, Settled, Synchronized, Unlinkable, Written};
 ghost use Rattle.exh_disk.specs.History.{History, SameBut, kept, placed, placed_if};
@@ -34,6 +35,9 @@ pub trait Disk {
 
     /// How far a file is.
     ghost stage: { Self.File → Stage };
+
+    /// Whether a file was found to have this name, and no other, when it was asked last.
+    ghost bears: { Self.File → List ℕ → Type 0 };
 
     /// The bytes of a file that was emptied, and those that a file has, where a model says what files have.
     ghost unwritten: { Option (List ℕ) };
@@ -106,13 +110,15 @@ pub trait Disk {
     /// Whether a locked file has the name of a path, as it was.
     fn confirm_old(&mut self, held: &mut Self::Held, path: &str, was: &Found) -> io::Result<bool>
         ensures stands { IfOk result (λ is_there. stands held.new path.now ≡ is_there) }
+        ensures stays { IfOk result (λ is_there. is_there ≡ true → answers (Stays path.now was.now)) }
         ensures gone { IfOk result (λ is_there. is_there ≡ false → answers (Strange path.now)) }
         ensures fails { IfErr result (λ error. answers (Fails error)) }
         ensures crash { history self.new ≡ history self.old };
 
     /// Takes away a name beside a path that is another one of the locked file at the path.
     fn unname_old(&mut self, held: &Self::Held, name: &str, path: &str) -> io::Result<()>
-        requires { name.now ≢ path.now }
+        requires beside { name.now ≢ path.now }
+        requires same { (there : Found) × (found : Found) × answers (Named path.now there) × answers (Named name.now found) × IsSame found there }
         ensures fails { IfErr result (λ error. answers (Fails error)) }
         ensures crash { SameBut name.now (history self.old) (history self.new) };
 
@@ -130,6 +136,7 @@ pub trait Disk {
     /// Makes a file where nothing has the name, with these permissions or the part of them that is usual.
     fn make(&mut self, name: &str, mode: u32) -> io::Result<Self::File>
         ensures stage { IfOk result (λ file. stage file ≡ Made) }
+        ensures owned { OnOk result (answers (Owned name.now)) }
         ensures fails { IfErr result (λ error. answers (Fails error)) }
         ensures crash { SameBut name.now (history self.old) (history self.new) };
 
@@ -150,6 +157,8 @@ pub trait Disk {
     /// Whether a file is the one of this name, and has no other.
     fn confirm(&mut self, file: &mut Self::File, name: &str) -> io::Result<bool>
         ensures ok { IfOk result (λ is_own. stage file.new ≡ asked (stage file.old) is_own) }
+        ensures bears { IfOk result (λ is_own. is_own ≡ true → bears file.new name.now) }
+        ensures owned { IfOk result (λ is_own. is_own ≡ true → answers (Owned name.now)) }
         ensures other { IfOk result (λ is_own. is_own ≡ false → answers (Strange name.now)) }
         ensures err { OnErr result (stage file.new ≡ stage file.old) }
         ensures fails { IfErr result (λ error. answers (Fails error)) }
@@ -227,6 +236,7 @@ pub trait Disk {
         held: &Self::Held,
     ) -> io::Result<()>
         requires stage { stage file.old ≡ Confirmed }
+        requires name { bears file.old name.now }
         requires beside { name.now ≢ path.now }
         requires held { stands held.now path.now ≡ true }
         ensures ok { OnOk result (stage file.new ≡ Placed) }
@@ -239,8 +249,10 @@ pub trait Disk {
     /// Gives a file a path that nothing has, beside its name; `false` where the system has no links for it.
     fn link(&mut self, file: &mut Self::File, name: &str, path: &str) -> io::Result<bool>
         requires stage { stage file.old ≡ Confirmed }
+        requires name { bears file.old name.now }
         requires beside { name.now ≢ path.now }
         ensures ok { IfOk result (λ is_linked. stage file.new ≡ linked is_linked) }
+        ensures bears { OnOk result (bears file.new name.now) }
         ensures err { OnErr result (stage file.new ≡ stage file.old) }
         ensures fails { IfErr result (λ error. answers (Fails error)) }
         ensures bytes { holds file.new ≡ holds file.old }
@@ -249,7 +261,8 @@ pub trait Disk {
 
     /// Takes away the name of a file that has its path too.
     fn unname(&mut self, file: &mut Self::File, name: &str) -> io::Result<()>
-        requires { stage file.old ≡ Linked }
+        requires stage { stage file.old ≡ Linked }
+        requires name { bears file.old name.now }
         ensures stage { stage file.new ≡ Placed }
         ensures fails { IfErr result (λ error. answers (Fails error)) }
         ensures bytes { holds file.new ≡ holds file.old }
@@ -258,6 +271,7 @@ pub trait Disk {
     /// Gives a file that can't be linked a path that nothing had when it was looked at last.
     fn rename_new(&mut self, file: &mut Self::File, name: &str, path: &str) -> io::Result<()>
         requires stage { stage file.old ≡ Unlinkable }
+        requires name { bears file.old name.now }
         requires beside { name.now ≢ path.now }
         ensures ok { OnOk result (stage file.new ≡ Placed) }
         ensures err { OnErr result (stage file.new ≡ stage file.old) }
@@ -277,7 +291,9 @@ pub trait Disk {
 
     /// Takes away the name of a file that this save made or has the lock of.
     fn remove(&mut self, file: &Self::File, name: &str) -> io::Result<()>
-        requires { is_ours (stage file.now) ≡ true }
+        requires stage { is_ours (stage file.now) ≡ true }
+        requires name { answers (Owned name.now) }
+        ensures gone { OnOk result (answers (Unnamed name.now)) }
         ensures fails { IfErr result (λ error. answers (Fails error)) }
         ensures crash { SameBut name.now (history self.old) (history self.new) };
 }

@@ -12,13 +12,15 @@ pub struct MemoryOpened {
     pub opening: Rc<usize>,
 }
 
-/// An open file that is on its way to the path.
+/// An open file that is on its way to the path, the name that was asked about last, and whether it had that.
 #[derive(Drop)]
 pub struct MemoryFile {
     pub opened: MemoryOpened,
     pub stage: Stage,
     /// What it has since it was emptied.
     pub bytes: Vec<u8>,
+    pub name: String,
+    pub has_name: bool,
 }
 
 /// The lock of an open file, the path at which that was looked for last, and whether it was there.

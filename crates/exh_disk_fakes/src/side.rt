@@ -1,5 +1,5 @@
 //! What one saver sees of a file system in memory.
-ghost use Rattle.std.specs.Prelude.{◌≡◌, ◌&&◌, ⊤, None, Some, [], OnOk, OnErr, bytes_eq, string_bytes};
+ghost use Rattle.std.specs.Prelude.{◌≡◌, ◌&&◌, ⊤, None, Some, [], OnOk, OnErr, bytes_eq, string_bytes, true};
 ghost use Rattle.exh_disk.specs.History.{placed};
 ghost use Rattle.exh_disk_fakes.specs.Past.{history_at, known};
 
@@ -119,6 +119,8 @@ impl<B: Between + Drop> Disk for Side<'_, B> {
 
     ghost stage = { λ file. file.stage };
 
+    ghost bears = { λ file name. (file.has_name ≡ true) × (string_bytes file.name ≡ name) };
+
     ghost unwritten = { Some [] };
 
     ghost holds = { λ file. Some file.bytes.items };
@@ -223,6 +225,8 @@ impl<B: Between + Drop> Disk for Side<'_, B> {
             opened: self.disk.opened(node)?,
             stage: Stage::Made,
             bytes: Vec::new(self.disk.alloc),
+            name: String::new(self.disk.alloc),
+            has_name: false,
         })
     }
 
@@ -235,6 +239,8 @@ impl<B: Between + Drop> Disk for Side<'_, B> {
             opened: self.disk.opened(node)?,
             stage: Stage::Left,
             bytes: Vec::new(self.disk.alloc),
+            name: String::new(self.disk.alloc),
+            has_name: false,
         })
     }
 
@@ -248,6 +254,8 @@ impl<B: Between + Drop> Disk for Side<'_, B> {
     fn confirm(&mut self, file: &mut MemoryFile, name: &str) -> io::Result<bool> {
         let found = self.found(name)?;
         let is_own = self.disk.node(file.opened.node)?.about.is_only(&found);
+        file.name = String::from_str(self.disk.alloc, name)?;
+        file.has_name = is_own;
         file.stage = file.stage.asked(is_own);
         Ok(is_own)
     }

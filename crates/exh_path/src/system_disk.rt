@@ -1,4 +1,4 @@
-ghost use Rattle.std.specs.Prelude.{◌≡◌, ◌&&◌, ⊤, IfErr, IfOk, None, bytes_eq, string_bytes};
+ghost use Rattle.std.specs.Prelude.{◌≡◌, ◌&&◌, ⊤, IfErr, IfOk, None, bytes_eq, string_bytes, true};
 ghost use Rattle.std.specs.IoError.{error_kind};
 ghost use Rattle.std.specs.declared.io.ErrorKind.TheVariants.{OutOfMemory};
 ghost use Rattle.exh_disk.specs.Seen.{IsSeenAt};
@@ -19,11 +19,13 @@ pub struct SystemDisk<'r> {
     rt: &'r HostRuntime,
 }
 
-/// A file of the system, and how far it is.
+/// A file of the system, how far it is, the name that was asked about last, and whether it had that.
 #[derive(Drop)]
 pub struct SystemFile {
     file: File,
     stage: Stage,
+    name: String,
+    has_name: bool,
 }
 
 /// The lock of a file of the system, the path at which that was looked for last, and whether it was there.
@@ -65,6 +67,8 @@ impl Disk for SystemDisk<'_> {
     type Device = File;
 
     ghost stage = { λ file. file.stage };
+
+    ghost bears = { λ file name. (file.has_name ≡ true) × (string_bytes file.name ≡ name) };
 
     ghost unwritten = { None };
 
@@ -163,6 +167,8 @@ impl Disk for SystemDisk<'_> {
         Ok(SystemFile {
             file,
             stage: Stage::Made,
+            name: String::new(self.rt.alloc()),
+            has_name: false,
         })
     }
 
@@ -173,6 +179,8 @@ impl Disk for SystemDisk<'_> {
         Ok(SystemFile {
             file,
             stage: Stage::Left,
+            name: String::new(self.rt.alloc()),
+            has_name: false,
         })
     }
 
@@ -185,6 +193,8 @@ impl Disk for SystemDisk<'_> {
     fn confirm(&mut self, file: &mut SystemFile, name: &str) -> io::Result<bool> {
         let named = found_of(&fs::symlink_metadata(self.rt, name)?);
         let is_own = found_of(&file.file.metadata()?).is_only(&named);
+        file.name = String::from_str(self.rt.alloc(), name)?;
+        file.has_name = is_own;
         file.stage = file.stage.asked(is_own);
         Ok(is_own)
     }
@@ -224,6 +234,8 @@ impl Disk for SystemDisk<'_> {
         SystemFile {
             file: writer,
             stage: Stage::Written,
+            name: String::new(self.rt.alloc()),
+            has_name: false,
         }
     }
 

@@ -1,9 +1,12 @@
 -- A fault that is handed on, and what is done only where another call was.
-use Rattle.std.specs.Prelude.{◌≡◌, ◌⊎◌, IfErr, IsErrAnd, IsOk, OnOk}
+use Rattle.std.specs.Prelude.{◌≡◌, ◌⊎◌, IfErr, IfSome, IsErrAnd, IsOk, None, OnOk, Option, Some}
 use Rattle.std.proofs.Common.{inl, inr, subst, ⊎_elim}
 use Rattle.std.proofs.lemmas.Bool.{false≢true}
 use Rattle.std.specs.declared.result.Result.{Result}
 use Rattle.std.specs.declared.result.Result.TheVariants.{Err, Ok}
+use Rattle.std.specs.Option.{option_map}
+use Rattle.exh_disk.specs.declared.found.Found.{Found}
+use Rattle.exh_saving.specs.declared.old.Old.{Old}
 
 -- what holds of the fault holds of the result that hands it on
 pub handed_on : {T E : Type 0} (result : Result T E) (P : E → Type 0) (fault : E) → IsErrAnd result (λ error. error ≡ fault) → P fault → IfErr result P
@@ -20,6 +23,16 @@ done_so (Err fault) other P is holds = tt
 pub on_ok : {T E : Type 0} (result : Result T E) (P Q : Type 0) → (P → Q) → OnOk result P → OnOk result Q
 on_ok (Ok value) P Q follows holds = follows holds
 on_ok (Err fault) P Q follows holds = tt
+
+-- what follows of two facts holds of a result that is done
+pub both_ok : {T E : Type 0} (result : Result T E) (P Q R : Type 0) → (P → Q → R) → OnOk result P → OnOk result Q → OnOk result R
+both_ok (Ok value) P Q R follows one other = follows one other
+both_ok (Err fault) P Q R follows one other = tt
+
+-- what holds of what was found of the file that is to be replaced
+pub of_found : {H : Type 0} (P : Found → Type 0) (old : Option (Old H)) → IfSome old (λ held. P held.found) → IfSome (option_map (λ held. held.found) old) P
+of_found P None holds = tt
+of_found P (Some held) holds = holds
 
 -- what follows holds of a fault
 pub on_fault : {T E : Type 0} (result : Result T E) (P Q : E → Type 0) → ((fault : E) → P fault → Q fault) → IfErr result P → IfErr result Q

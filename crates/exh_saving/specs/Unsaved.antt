@@ -4,7 +4,7 @@ use Rattle.std.specs.Borrow.{Bor}
 use Rattle.std.specs.IoError.{error_kind}
 use Rattle.std.specs.declared.io.Error.{Error}
 use Rattle.std.specs.declared.io.ErrorKind.TheVariants.{AlreadyExists, InvalidInput}
-use Rattle.exh_disk.specs.Answer.{Answer, Fails, IsHoldTold, IsRegular, IsTold, Named}
+use Rattle.exh_disk.specs.Answer.{Answer, Fails, IsHoldTold, IsRegular, IsTold, Named, Stays}
 use Rattle.exh_disk.specs.DiskFault.{told}
 use Rattle.exh_disk.specs.Seen.{IsGone}
 use Rattle.exh_disk.specs.declared.fault.Call.TheVariants.{Ask, Link, Open, Permit, Rename, Synchronize, Write}
@@ -25,11 +25,12 @@ abbrev pub IsAgain : {O : Type 0} → (Answer → Type 0) → (O → Found → T
 IsAgain answers finds magic named seen path old = (there : Option Found) × MayTake answers finds magic named seen path there
     × IsStill old there × IfSome there (IsDressed answers)
 
--- A file got a path: what was there might be replaced, at a first look and at a second one, and the file was written under
--- a name beside that was free, or had what a killed save left.
+-- A file got a path: what was there might be replaced, at a first look and at a second one, and was still as it was at a last
+-- one, and the file was written under a name beside that was free, or had what a killed save left.
 abbrev pub MayPlace : {O : Type 0} → (Answer → Type 0) → (O → Found → Type 0) → List ℕ → List ℕ → Option (Bor (Seen O)) → List ℕ → Type 0
 MayPlace answers finds magic named seen path = (old : Option Found) × MayTake answers finds magic named seen path old
     × IsAgain answers finds magic named seen path old
+    × IfSome old (λ old. answers (Stays path old))
     × ((name : List ℕ) × IsClaimed answers magic path old name)
 
 -- the lock of the file at a path wasn't had

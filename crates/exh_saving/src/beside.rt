@@ -1,11 +1,11 @@
 //! A save of a regular file: it is written beside its path, and renamed over it, or linked to it where nothing is there.
-ghost use Rattle.std.specs.Prelude.{◌≡◌, ◌≢◌, ◌⊎◌, ◌↔◌, IfErr, IfOk, IsErrAnd, IsOk, IsTrue, OnErr, OnOk, string_bytes, true};
+ghost use Rattle.std.specs.Prelude.{◌≡◌, ◌≢◌, ◌⊎◌, ◌↔◌, IfErr, IfOk, IfSome, IsErrAnd, IsOk, IsTrue, OnErr, OnOk, string_bytes, true};
 ghost use Rattle.std.specs.Io.KnownBytes.{Appends};
 ghost use Rattle.std.specs.Option.{option_map};
 ghost use Rattle.exh_disk.specs.declared.stage.Stage.TheVariants.{Confirmed, Empty, Placed, Settled, Unlinkable};
 ghost use Rattle.exh_disk.specs.History.{placed};
 ghost use Rattle.exh_disk.specs.Stage.{is_fillable, is_ours};
-ghost use Rattle.exh_disk.specs.Answer.{IsTold};
+ghost use Rattle.exh_disk.specs.Answer.{IsTold, Named, Owned, Stays};
 ghost use Rattle.exh_disk.specs.declared.fault.Call.TheVariants.{Ask, Link, Rename};
 ghost use Rattle.exh_saving.specs.Claimed.{IsClaimed, IsUnclaimed};
 ghost use Rattle.exh_saving.specs.Replaced.{IsStill};
@@ -79,7 +79,9 @@ fn finish<D: Disk>(
 ) -> Result<(D::File, Option<io::Error>), DiskFault>
     requires stage { is_fillable (D.stage file) ≡ true }
     requires beside { name.now ≢ path.now }
+    requires owned { D.answers (Owned name.now) }
     ensures settled { IfOk result (λ saved. D.stage saved.0 ≡ Settled) }
+    ensures stays { OnOk result (IfSome old.old (λ held. D.answers (Stays path.now held.found))) }
     ensures filled { OnOk result (IsOk filled) }
     ensures why { IfErr result (λ fault. IsErrAnd filled (λ error. error ≡ fault) ⊎ IsUnplaced D.leads D.answers named.now path.now name.now fault) }
     ensures bytes { IfOk result (λ saved. D.holds saved.0 ≡ D.holds file) }
@@ -120,9 +122,11 @@ fn claim_beside<D: Disk>(
     target: &Target<'_, D::Opened>,
     old: &Option<Old<D::Held>>,
 ) -> Result<(D::File, String), DiskFault>
+    requires { IfSome old.now (λ held. D.answers (Named path.now held.found)) }
     ensures stage { IfOk result (λ claimed. D.stage claimed.0 ≡ Empty) }
     ensures bytes { IfOk result (λ claimed. D.holds claimed.0 ≡ D.unwritten) }
     ensures beside { IfOk result (λ claimed. string_bytes claimed.1 ≢ path.now) }
+    ensures owned { IfOk result (λ claimed. D.answers (Owned (string_bytes claimed.1))) }
     ensures free { IfOk result (λ claimed. IsClaimed D.answers target.now.magic path.now (option_map (λ held. held.found) old.now) (string_bytes claimed.1)) }
     ensures err { IfErr result (IsUnclaimed D.answers target.now.magic path.now (option_map (λ held. held.found) old.now)) }
     ensures crash { D.history disk.new path.now ≡ D.history disk.old path.now }
@@ -206,6 +210,7 @@ fn put<D: Disk>(
     requires stage { is_fillable (D.stage file.old) ≡ true }
     requires beside { name.now ≢ path.now }
     ensures filled { OnOk result (IsOk filled) }
+    ensures stays { OnOk result (IfSome old.old (λ held. D.answers (Stays path.now held.found))) }
     ensures why { IfErr result (λ fault. IsErrAnd filled (λ error. error ≡ fault) ⊎ IsUnplaced D.leads D.answers named.now path.now name.now fault) }
     ensures ok { OnOk result (D.stage file.new ≡ Placed) }
     ensures err { OnErr result (is_ours (D.stage file.new) ≡ true) }
@@ -236,6 +241,7 @@ fn put_over<D: Disk>(
     old: &Old<D::Held>,
 ) -> Result<(), DiskFault>
     requires stage { D.stage file.old ≡ Confirmed }
+    requires name { D.bears file.old name.now }
     requires beside { name.now ≢ path.now }
     requires held { D.stands old.now.held path.now ≡ true }
     ensures ok { OnOk result (D.stage file.new ≡ Placed) }
@@ -259,6 +265,7 @@ fn put_new<D: Disk>(
     path: &str,
 ) -> Result<(), DiskFault>
     requires stage { D.stage file.old ≡ Confirmed }
+    requires name { D.bears file.old name.now }
     requires beside { name.now ≢ path.now }
     ensures ok { OnOk result (D.stage file.new ≡ Placed) }
     ensures err { OnErr result (is_ours (D.stage file.new) ≡ true) }
@@ -287,6 +294,7 @@ fn rename_new<D: Disk>(
     path: &str,
 ) -> Result<(), DiskFault>
     requires stage { D.stage file.old ≡ Unlinkable }
+    requires name { D.bears file.old name.now }
     requires beside { name.now ≢ path.now }
     ensures ok { OnOk result (D.stage file.new ≡ Placed) }
     ensures err { OnErr result (is_ours (D.stage file.new) ≡ true) }

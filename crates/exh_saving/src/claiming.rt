@@ -1,7 +1,7 @@
 //! The file beside a path that a save has for itself.
 ghost use Rattle.std.specs.Prelude.{◌≡◌, ◌≢◌, ◌⊎◌, ◌↔◌, IfErr, IfNone, IfOk, IfSome, IsTrue, OnErr, OnOk, is_some, string_bytes, true};
 ghost use Rattle.std.specs.Option.{option_copied};
-ghost use Rattle.exh_disk.specs.Answer.{IsTold};
+ghost use Rattle.exh_disk.specs.Answer.{IsTold, Owned};
 ghost use Rattle.exh_disk.specs.declared.fault.Call.TheVariants.{Empty as EmptyCall, Make};
 ghost use Rattle.exh_disk.specs.declared.stage.Stage.TheVariants.{Empty, Made, OwnLeft};
 ghost use Rattle.exh_disk.specs.History.{SameBut};
@@ -31,6 +31,7 @@ pub(crate) fn claim<D: Disk>(
     ensures stage { IfOk result (λ claimed. D.stage claimed.0 ≡ Empty) }
     ensures bytes { IfOk result (λ claimed. D.holds claimed.0 ≡ D.unwritten) }
     ensures beside { IfOk result (λ claimed. string_bytes claimed.1 ≢ path.now) }
+    ensures owned { IfOk result (λ claimed. D.answers (Owned (string_bytes claimed.1))) }
     ensures free { IfOk result (λ claimed. IsClaimed D.answers magic path.now (option_copied old.entry) (string_bytes claimed.1)) }
     ensures err { IfErr result (IsUnclaimed D.answers magic path.now (option_copied old.entry)) }
     ensures crash { D.history disk.new path.now ≡ D.history disk.old path.now }
@@ -61,6 +62,7 @@ fn claim_name<D: Disk>(
     ensures stage { IfOk result (λ claimed. IfSome claimed (λ file. D.stage file ≡ Empty)) }
     ensures bytes { IfOk result (λ claimed. IfSome claimed (λ file. D.holds file ≡ D.unwritten)) }
     ensures beside { IfOk result (λ claimed. IfSome claimed (λ _. name.now ≢ path.now)) }
+    ensures owned { IfOk result (λ claimed. IfSome claimed (λ _. D.answers (Owned name.now))) }
     ensures free { IfOk result (λ claimed. IfSome claimed (λ _. MayClaim D.answers magic (option_copied old.entry) name.now)) }
     ensures taken { IfOk result (λ claimed. IfNone claimed (IsTakenName D.answers magic path.now (option_copied old.entry) name.now)) }
     ensures err { IfErr result (IsUnmade D.answers name.now) }
@@ -107,6 +109,7 @@ fn is_left_over(found: &Found, runner: Option<Runner>, old: Option<&Found>) -> b
 fn make<D: Disk>(disk: &mut D, name: &str, old: Option<&Found>) -> Result<D::File, DiskFault>
     ensures stage { IfOk result (λ file. D.stage file ≡ Empty) }
     ensures bytes { IfOk result (λ file. D.holds file ≡ D.unwritten) }
+    ensures owned { OnOk result (D.answers (Owned name.now)) }
     ensures err { IfErr result (IsUnmade D.answers name.now) }
     ensures crash { SameBut name.now (D.history disk.old) (D.history disk.new) }
 {
@@ -154,6 +157,7 @@ fn take_over<D: Disk>(
     requires { name.now ≢ path.now }
     ensures stage { IfOk result (λ taken. IfSome taken (λ file. D.stage file ≡ Empty)) }
     ensures bytes { IfOk result (λ taken. IfSome taken (λ file. D.holds file ≡ D.unwritten)) }
+    ensures owned { IfOk result (λ taken. IfSome taken (λ _. D.answers (Owned name.now))) }
     ensures begins { IfOk result (λ taken. IsOfASave D.answers magic name.now (is_some taken)) }
     ensures err { IfErr result (IsUnmade D.answers name.now) }
     ensures crash { SameBut name.now (D.history disk.old) (D.history disk.new) }
@@ -203,7 +207,8 @@ fn begins_as(head: &Head, magic: [u8; 8]) -> bool
 
 // Makes a file in place of what a save left.
 fn remake<D: Disk>(disk: &mut D, left: &D::File, name: &str) -> Result<D::File, DiskFault>
-    requires { D.stage left.now ≡ OwnLeft }
+    requires stage { D.stage left.now ≡ OwnLeft }
+    requires name { D.answers (Owned name.now) }
     ensures stage { IfOk result (λ file. D.stage file ≡ Empty) }
     ensures bytes { IfOk result (λ file. D.holds file ≡ D.unwritten) }
     ensures err { IfErr result (IsUnmade D.answers name.now) }
@@ -217,7 +222,8 @@ fn remake<D: Disk>(disk: &mut D, left: &D::File, name: &str) -> Result<D::File, 
 
 // Empties what a save left, which nobody else may open by then, or takes its name away.
 fn clear<D: Disk>(disk: &mut D, left: &mut D::File, name: &str) -> Result<(), DiskFault>
-    requires { D.stage left.old ≡ OwnLeft }
+    requires stage { D.stage left.old ≡ OwnLeft }
+    requires name { D.answers (Owned name.now) }
     ensures stage { OnOk result (D.stage left.new ≡ Empty) }
     ensures bytes { OnOk result (D.holds left.new ≡ D.unwritten) }
     ensures err { IfErr result (IsTold D.answers EmptyCall) }
@@ -239,6 +245,7 @@ fn clear<D: Disk>(disk: &mut D, left: &mut D::File, name: &str) -> Result<(), Di
 // Takes the lock of a file, as long as it has its name.
 fn own<D: Disk>(disk: &mut D, file: &mut D::File, name: &str) -> Result<(), DiskFault>
     ensures ok { OnOk result (D.stage file.new ≡ asked (locked (D.stage file.old)) true) }
+    ensures owned { OnOk result (D.answers (Owned name.now)) }
     ensures err { OnErr result ((D.stage file.new ≡ D.stage file.old) ⊎ (D.stage file.new ≡ locked (D.stage file.old))) }
     ensures why { IfErr result (IsUnowned D.answers name.now) }
     ensures crash { D.history disk.new ≡ D.history disk.old }
@@ -256,6 +263,8 @@ pub(crate) fn see_own<D: Disk>(
     name: &str,
 ) -> Result<(), DiskFault>
     ensures ok { OnOk result (D.stage file.new ≡ asked (D.stage file.old) true) }
+    ensures bears { OnOk result (D.bears file.new name.now) }
+    ensures owned { OnOk result (D.answers (Owned name.now)) }
     ensures err { OnErr result (D.stage file.new ≡ D.stage file.old) }
     ensures why { IfErr result (IsNotOwn D.answers name.now) }
     ensures bytes { D.holds file.new ≡ D.holds file.old }

@@ -1,6 +1,7 @@
 //! The file that a save replaces, under its lock.
-ghost use Rattle.std.specs.Prelude.{◌≡◌, ◌≢◌, IfErr, IfOk, OnOk, true};
+ghost use Rattle.std.specs.Prelude.{◌≡◌, ◌≢◌, IfErr, IfOk, IfSome, OnOk, true};
 ghost use Rattle.std.specs.Option.{option_map};
+ghost use Rattle.exh_disk.specs.Answer.{Named, Stays};
 ghost use Rattle.exh_disk.specs.declared.fault.DiskFault.TheVariants.{Memory};
 ghost use Rattle.exh_saving.specs.Replaced.{MayTake};
 ghost use Rattle.exh_saving.specs.Unsaved.{IsMoved, IsOldUnheld, IsUnheld};
@@ -27,6 +28,7 @@ pub(crate) fn hold_old<D: Disk>(
     target: &Target<'_, D::Opened>,
 ) -> Result<Option<Old<D::Held>>, DiskFault>
     ensures free { IfOk result (λ old. MayTake D.answers D.finds target.now.magic target.now.path.now target.now.seen path.now (option_map (λ held. held.found) old)) }
+    ensures there { IfOk result (λ old. IfSome old (λ held. D.answers (Named path.now held.found))) }
     ensures err { IfErr result (IsOldUnheld D.answers D.finds target.now.magic target.now.path.now target.now.seen path.now) }
     ensures crash { D.history disk.new ≡ D.history disk.old }
 {
@@ -61,6 +63,7 @@ pub(crate) fn see_held<D: Disk>(
 ) -> Result<(), DiskFault>
     ensures leads { OnOk result (D.leads named.now path.now) }
     ensures stands { OnOk result (D.stands old.new.held path.now ≡ true) }
+    ensures stays { OnOk result (D.answers (Stays path.now old.old.found)) }
     ensures found { old.new.found ≡ old.old.found }
     ensures err { IfErr result (IsMoved D.leads D.answers named.now path.now) }
     ensures crash { D.history disk.new ≡ D.history disk.old }
@@ -84,6 +87,7 @@ pub(crate) fn clear_names<D: Disk>(
     path: &str,
     old: &Old<D::Held>,
 ) -> Result<(), DiskFault>
+    requires { D.answers (Named path.now old.now.found) }
     ensures err { IfErr result (λ fault. fault ≡ Memory) }
     ensures crash { D.history disk.new path.now ≡ D.history disk.old path.now }
 {
@@ -101,6 +105,7 @@ pub(crate) fn clear_names<D: Disk>(
 
 // Where a name isn't taken away another one is used.
 fn clear_name<D: Disk>(disk: &mut D, name: &str, path: &str, old: &Old<D::Held>)
+    requires { D.answers (Named path.now old.now.found) }
     ensures { D.history disk.new path.now ≡ D.history disk.old path.now }
 {
     if name == path {
