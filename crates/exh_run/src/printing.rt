@@ -1,11 +1,12 @@
 //! What a command prints, and what is said where it isn't printed.
 ghost use Rattle.std.specs.Prelude.{◌≡◌, [], IsFalse};
 ghost use Rattle.exh_stream.specs.Output.{SameWriter, held, pending, writer_failed};
+ghost use Rattle.exh_answer.specs.LastLine.{TellsLine};
 ghost use Rattle.exh_run.specs.Ends.{EndsText};
 
 use crate::Run;
-use crate::refusal::tell_unprinted;
-use exh_answer::{Status, tell_line};
+use crate::refusal::refuse_unprinted;
+use exh_answer::{Status, print_line};
 use exh_stream::Output;
 use std::alloc::AllocError;
 use std::io::Write;
@@ -24,26 +25,27 @@ pub fn tell_text<W: Write>(
     ensures same_writer { SameWriter output.old output.new }
     ensures told { EndsText (λ text. text.items) (held W.contents output.old) (held W.contents output.new) (writer_failed output.new) text status result }
 {
-    let printed = print_text(text, status, output);
-    if matches!(printed, Status::Refused) {
-        tell_unprinted(run, is_saved);
+    match text {
+        Ok(text) => tell_bytes(run, &text, status, is_saved, output),
+        Err(_) => refuse_unprinted(run, is_saved),
     }
-    printed
 }
 
-// The same, where nothing is said.
-fn print_text<W: Write>(
-    text: Result<Vec<u8>, AllocError>,
+// The same of a text that there is.
+fn tell_bytes<W: Write>(
+    run: &Run<'_>,
+    text: &[u8],
     status: Status,
+    is_saved: bool,
     output: &mut Output<'_, W>,
 ) -> Status
     requires open { IsFalse (writer_failed output.old) }
     requires empty { pending output.old ≡ [] }
     ensures same_writer { SameWriter output.old output.new }
-    ensures told { EndsText (λ text. text.items) (held W.contents output.old) (held W.contents output.new) (writer_failed output.new) text status result }
+    ensures told { TellsLine (held W.contents output.old) (held W.contents output.new) (writer_failed output.new) text.now status result }
 {
-    match text {
-        Ok(text) => tell_line(&text, status, output),
-        Err(_) => Status::Refused,
+    match print_line(output, text) {
+        Ok(()) => status,
+        Err(_) => refuse_unprinted(run, is_saved),
     }
 }

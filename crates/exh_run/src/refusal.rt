@@ -124,8 +124,11 @@ pub fn key_word(rt: &impl AllocGlobal, key: &Key) -> Result<String, AllocError> 
     }
 }
 
-/// Says that an answer isn't printed, and why, and whether a change is saved all the same.
-pub fn tell_unprinted(run: &Run<'_>, is_saved: bool) {
+/// Says that an answer isn't printed, and why, and whether a change is saved all the same, and gives the status with which the
+/// program ends.
+pub fn refuse_unprinted(run: &Run<'_>, is_saved: bool) -> Status
+    ensures { result ≡ Status.Refused }
+{
     let path = Escaped(run.path);
     let saved = if is_saved {
         "the change is saved, but "
@@ -144,4 +147,5 @@ pub fn tell_unprinted(run: &Run<'_>, is_saved: bool) {
             );
         }
     }
+    Status::Refused
 }
