@@ -4,13 +4,21 @@ use Rattle.exh_keyer.specs.declared.any_keyer.AnyKeyer.{AnyKeyer}
 use Rattle.exh_table.specs.Table.{TableMap}
 use Rattle.exh_page.specs.KeyMap.{KeyMap}
 use Rattle.exh_settings.specs.declared.file_settings.FileSettings.{FileSettings}
+use Rattle.std.specs.List.{AllByRecursion}
+use Rattle.exh_format.specs.FileTests.{block_at}
+use Rattle.exh_format.specs.HeaderTests.{header_tests}
 use Rattle.exh_format.specs.Reading.{AreBytes}
+use Rattle.exh_cells.specs.StampedHeader.{PassesStamped}
 use Rattle.exh_cells.specs.LegalPlaced.{IsLegalPlacedFile}
 use Rattle.exh_cells.specs.PlacedFile.{PlacedFile}
 use Rattle.exh_file.specs.Draft.{DraftState, IsDraftSaving}
 use Rattle.exh_file.specs.declared.placing.Stamps.{Stamps}
 use Rattle.exh_paged.specs.CallChange.{HasPairs, HasStamps, HasState}
 use Rattle.exh_walked.specs.PlacedLaws.{map_in}
+
+-- the first block of a legal page file passes each test of a header
+abbrev pub LegalHeadersPass : Type 0
+LegalHeadersPass = (file : PlacedFile) (tables : List TableMap) (bytes : List ℕ) → IsLegalPlacedFile file tables bytes → AllByRecursion (PassesStamped (block_at 0 bytes)) header_tests
 
 -- the draft's page file has these pairs and stamps
 abbrev pub Drafts : KeyMap → Stamps → DraftState → Type 0

@@ -1,5 +1,5 @@
 //! Commits over any disk.
-ghost use Rattle.std.specs.Prelude.{◌≡◌, ℕ, List, IfOk, IsTrue, OnOk};
+ghost use Rattle.std.specs.Prelude.{◌≡◌, ℕ, List, IfErr, IfOk, IsTrue, OnOk};
 ghost use Rattle.sqlite_disk.specs.Disk.{Only};
 ghost use Rattle.sqlite_wal.specs.Files.{seen_image};
 ghost use Rattle.sqlite_wal.specs.Reads.{AreClean};
@@ -11,6 +11,7 @@ ghost use Rattle.exh_file.specs.declared.placing.Stamps.{Stamps as StampsOf};
 ghost use Rattle.exh_page.specs.KeyMap.{KeyMap};
 ghost use Rattle.exhash.specs.Commit.{Drafts, IsCommitted, IsOldOrCommitted};
 ghost use Rattle.exh_map.specs.FileMap.{KeepsMap};
+ghost use Rattle.exh_map.specs.Told.{IsUnsure};
 
 use crate::drafting::drafted;
 use exh_commit::Truthful;
@@ -54,6 +55,9 @@ pub fn commit_files<D: Truthful + Drop, P: Pages + Drop>(
         → LeavesAlone D.Disk (result.1.log, result.1.db) (IsCommitted D.Truthful.is_truthful whole stamps old)) }
     // It had the stamp before, unless a wrong answer of the disk was taken as true.
     ensures opened { OnOk result.0 (AreClean D.Disk result.1.log result.1.db → (old : List ℕ) → StandsFor (seen_image D.Disk files.log files.db) old → HasStamp stamps.before old) }
+    // But for `Unsure` nothing was changed.
+    ensures unchanged { IfErr result.0 (λ fault. (IsUnsure fault → ⊥) → (old : List ℕ) → StandsFor (seen_image D.Disk files.log files.db) old
+        → Leaves D.Disk (result.1.log, result.1.db) (λ bytes. bytes ≡ old)) }
     // The map is as before.
     ensures kept { KeepsMap map.old map.new }
     ensures settings { settings_in map.new ≡ settings_in map.old }
@@ -98,10 +102,15 @@ fn save_draft<D: Truthful + Drop>(
     ensures ok { OnOk result.0 ((whole : KeyMap) (stamps : StampsOf) → Drafts whole stamps draft → (old : List ℕ) → StandsFor (seen_image D.Disk files.log files.db) old
         → LeavesAlone D.Disk (result.1.log, result.1.db) (IsCommitted D.Truthful.is_truthful whole stamps old)) }
     ensures opened { OnOk result.0 (AreClean D.Disk result.1.log result.1.db → (old : List ℕ) → StandsFor (seen_image D.Disk files.log files.db) old → HasStamp stamp old) }
+    ensures unchanged { IfErr result.0 (λ fault. (IsUnsure fault → ⊥) → (old : List ℕ) → StandsFor (seen_image D.Disk files.log files.db) old
+        → Leaves D.Disk (result.1.log, result.1.db) (λ bytes. bytes ≡ old)) }
 {
     let (saved, files) = save_files(alloc, files, options, stamp, draft);
     match saved {
         Ok(()) => (Ok(()), files),
-        Err(fault) => (Err(StoreError::from(Refused::from(fault))), files),
+        Err(fault) => {
+            let refused = Refused::from(fault);
+            (Err(StoreError::from(refused)), files)
+        }
     }
 }

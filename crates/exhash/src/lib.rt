@@ -21,6 +21,7 @@ mod disk_commit;
 #[cfg(test)]
 mod disk_examples;
 mod drafting;
+mod header_law;
 mod held_file;
 mod key_reading;
 mod new_file;
