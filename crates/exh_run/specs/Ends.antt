@@ -1,8 +1,8 @@
 -- How the run of a command ends: the statuses of refusals, and what is printed.
-use Rattle.std.specs.Prelude.{◌≡◌, ◌⊎◌, ℕ, Bool, List, Option, Result, Ok, Err}
+use Rattle.std.specs.Prelude.{◌≡◌, ◌⊎◌, ℕ, Bool, false, not, List, Option, Result, Ok, Err}
 use Rattle.exh_map.specs.declared.store_error.StoreError.{StoreError}
 use Rattle.exh_map.specs.declared.store_error.StoreError.TheVariants as fault
-use Rattle.exh_answer.specs.LastLine.{TellsLine}
+use Rattle.exh_answer.specs.LastLine.{PrintsLine, TellsLine}
 use Rattle.exh_answer.specs.declared.status.Status.{Status}
 use Rattle.exh_answer.specs.declared.status.Status.TheVariants.{Done, Missing, Refused, Busy}
 
@@ -45,6 +45,11 @@ pub data Ended : Type 0 where
 abbrev pub EndsText : {V E : Type 0} → (V → List ℕ) → Option (List ℕ) → Option (List ℕ) → Bool → Result V E → Status → Status → Type 0
 EndsText bytes old new failed (Ok text) status result = TellsLine old new failed (bytes text) status result
 EndsText bytes old new failed (Err none) status result = (new ≡ old) × (result ≡ Refused)
+
+-- the same, and whether it went out
+abbrev pub IsPrinted : {V E : Type 0} → (V → List ℕ) → Option (List ℕ) → Option (List ℕ) → Bool → Result V E → Bool → Type 0
+IsPrinted bytes old new failed (Ok text) printed = PrintsLine old new failed (bytes text) × (printed ≡ not failed)
+IsPrinted bytes old new failed (Err none) printed = (new ≡ old) × (printed ≡ false)
 
 -- Of a writer that held `old` bytes before and `new` ones after, where these are known, and of whether it failed: nothing was
 -- printed; or the text went out, or, with another status, a beginning of it, or nothing where there was no memory for it.

@@ -1,7 +1,7 @@
 //! What a command prints, and what is said where it isn't printed.
 ghost use Rattle.std.specs.Prelude.{◌≡◌, [], IsFalse};
 ghost use Rattle.exh_stream.specs.Output.{SameWriter, held, pending, writer_failed};
-ghost use Rattle.exh_run.specs.Ends.{EndsText};
+ghost use Rattle.exh_run.specs.Ends.{EndsText, IsPrinted};
 
 use crate::Run;
 use crate::refusal::tell_unprinted;
@@ -12,6 +12,7 @@ use std::io::Write;
 
 /// Prints a text on an output that holds nothing back and whose writer hasn't failed, and answers the status with which the
 /// program ends: this one where the text went out, else `Refused`. Then standard error says so, and whether a change is saved.
+#[tactic(auto, using(crate::proofs::Prints::ends_printed, crate::proofs::Prints::ends_unprinted))]
 pub fn tell_text<W: Write>(
     run: &Run<'_>,
     text: Result<Vec<u8>, AllocError>,
@@ -24,26 +25,22 @@ pub fn tell_text<W: Write>(
     ensures same_writer { SameWriter output.old output.new }
     ensures told { EndsText (λ text. text.items) (held W.contents output.old) (held W.contents output.new) (writer_failed output.new) text status result }
 {
-    let printed = print_text(text, status, output);
-    if matches!(printed, Status::Refused) {
-        tell_unprinted(run, is_saved);
+    if is_printed(text, output) {
+        return status;
     }
-    printed
+    tell_unprinted(run, is_saved);
+    Status::Refused
 }
 
-// The same, where nothing is said.
-fn print_text<W: Write>(
-    text: Result<Vec<u8>, AllocError>,
-    status: Status,
-    output: &mut Output<'_, W>,
-) -> Status
+// Prints a text, and answers whether it went out.
+fn is_printed<W: Write>(text: Result<Vec<u8>, AllocError>, output: &mut Output<'_, W>) -> bool
     requires open { IsFalse (writer_failed output.old) }
     requires empty { pending output.old ≡ [] }
     ensures same_writer { SameWriter output.old output.new }
-    ensures told { EndsText (λ text. text.items) (held W.contents output.old) (held W.contents output.new) (writer_failed output.new) text status result }
+    ensures told { IsPrinted (λ text. text.items) (held W.contents output.old) (held W.contents output.new) (writer_failed output.new) text result }
 {
     match text {
-        Ok(text) => tell_line(&text, status, output),
-        Err(_) => Status::Refused,
+        Ok(text) => matches!(tell_line(&text, Status::Done, output), Status::Done),
+        Err(_) => false,
     }
 }
