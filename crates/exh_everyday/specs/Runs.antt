@@ -18,6 +18,7 @@ use Rattle.exh_everyday.specs.declared.change.Change.{Change}
 use Rattle.exh_everyday.specs.declared.change.Change.TheVariants.{Put, PutNew, Replace, Remove, Swap}
 use Rattle.exh_everyday.specs.declared.found.Found.{Found}
 use Rattle.exh_everyday.specs.Changes.{IsAnswerTo}
+use Rattle.exh_everyday.specs.Founds.{AreTakenOut}
 use Rattle.exh_run.specs.Ends.{Ends, Silent, made_status}
 use Rattle.exh_transfer.specs.Compacts.{CompactEnds}
 use Rattle.exh_transfer.specs.Counts.{StatsEnd}
@@ -54,13 +55,13 @@ GetEnds form (keys.One key) old new failed status = GetOneEnds form old new fail
 GetEnds form (keys.Several several) old new failed status = GetSeveralEnds form.is_hex old new failed status
 GetEnds form keys.Input old new failed status = Ends (Silent Refused) old new failed status ⊎ GetSeveralEnds form.is_hex old new failed status
 
-abbrev pub DelSeveralEnds : Bool → Option (List ℕ) → Option (List ℕ) → Bool → Status → Type 0
-DelSeveralEnds hex old new failed status = (taken : Result Found StoreError) × Ends (del_several_ended hex taken) old new failed status
+abbrev pub DelSeveralEnds : Bool → List (List ℕ) → Option (List ℕ) → Option (List ℕ) → Bool → Status → Type 0
+DelSeveralEnds hex several old new failed status = (taken : Result Found StoreError) × (IfOk taken (AreTakenOut several) × Ends (del_several_ended hex taken) old new failed status)
 
 abbrev pub DelEnds : Bool → Keys → Option (List ℕ) → Option (List ℕ) → Bool → Status → Type 0
 DelEnds hex (keys.One key) old new failed status = ChangeEnds hex (Remove key) old new failed status
-DelEnds hex (keys.Several several) old new failed status = DelSeveralEnds hex old new failed status
-DelEnds hex keys.Input old new failed status = Ends (Silent Refused) old new failed status ⊎ DelSeveralEnds hex old new failed status
+DelEnds hex (keys.Several several) old new failed status = DelSeveralEnds hex several.items old new failed status
+DelEnds hex keys.Input old new failed status = Ends (Silent Refused) old new failed status ⊎ ((several : List (List ℕ)) × DelSeveralEnds hex several old new failed status)
 
 -- a create and a backup print nothing
 abbrev pub CreateEnds : Status → Type 0

@@ -1,8 +1,10 @@
 //! The run of a del.
-ghost use Rattle.std.specs.Prelude.{◌≡◌, [], IsFalse};
+ghost use Rattle.std.specs.Prelude.{◌≡◌, [], IfErr, IfOk, IsFalse, OnOk};
 ghost use Rattle.exh_stream.specs.Output.{SameWriter, held, pending, writer_failed};
 ghost use Rattle.exh_run.specs.Ends.{Ends};
+ghost use Rattle.exh_map.specs.CallFault.{IsWardFault};
 ghost use Rattle.exh_everyday.specs.Endings.{del_several_ended};
+ghost use Rattle.exh_everyday.specs.Founds.{AreTaken, AreTakenOut, IsTakenOne};
 ghost use Rattle.exh_everyday.specs.Runs.{DelEnds, DelSeveralEnds};
 
 use crate::change::{Change, make_change};
@@ -41,7 +43,7 @@ fn delete_several<W: Write>(run: &Run<'_>, keys: &[Key], output: &mut Output<'_,
     requires open { IsFalse (writer_failed output.old) }
     requires empty { pending output.old ≡ [] }
     ensures same_writer { SameWriter output.old output.new }
-    ensures ends { DelSeveralEnds run.now.form.is_hex (held W.contents output.old) (held W.contents output.new) (writer_failed output.new) result }
+    ensures ends { DelSeveralEnds run.now.form.is_hex keys.now (held W.contents output.old) (held W.contents output.new) (writer_failed output.new) result }
 {
     let taken = taken_out(run, keys);
     end_delete(run, taken, output)
@@ -65,7 +67,9 @@ fn end_delete<W: Write>(
 }
 
 // What keys had that were taken out. All of them are one commit.
-fn taken_out(run: &Run<'_>, keys: &[Key]) -> Result<Found, StoreError> {
+fn taken_out(run: &Run<'_>, keys: &[Key]) -> Result<Found, StoreError>
+    ensures { IfOk result (AreTakenOut keys.now) }
+{
     let mut store = Store::open_within(run.rt, run.path, run.seconds)?;
     let mut found = Found::new(run.rt.alloc());
     take_out(&mut store, keys, &mut found)?;
@@ -74,10 +78,21 @@ fn taken_out(run: &Run<'_>, keys: &[Key]) -> Result<Found, StoreError> {
 }
 
 // Takes keys out of a store, one after the other; what they had is found.
-fn take_out(store: &mut Store<'_>, keys: &[Key], found: &mut Found) -> Result<(), StoreError> {
+fn take_out(store: &mut Store<'_>, keys: &[Key], found: &mut Found) -> Result<(), StoreError>
+    ensures taken { OnOk result (AreTaken store.old.map keys.now found.old found.new store.new.map) }
+    ensures refused { IfErr result IsWardFault }
+{
     for key in keys {
-        let was = store.remove(key.as_bytes())?;
-        found.push(key, was)?;
+        take_one(store, key, found)?;
     }
     Ok(())
+}
+
+// Takes a key out of a store; what it had is found.
+fn take_one(store: &mut Store<'_>, key: &Key, found: &mut Found) -> Result<(), StoreError>
+    ensures taken { OnOk result (IsTakenOne store.old.map key.now found.old found.new store.new.map) }
+    ensures refused { IfErr result IsWardFault }
+{
+    let was = store.remove(key.as_bytes())?;
+    Ok(found.push(key, was)?)
 }

@@ -1,14 +1,15 @@
 //! The values of several keys, as a reading of an open file, which may be made again.
-ghost use Rattle.std.specs.Prelude.{⊤};
-ghost use Rattle.exh_walked.specs.AnyAnswer.{IsOfLegal};
+ghost use Rattle.std.specs.Prelude.{⊤, IfErr, IfOk, OnOk};
+ghost use Rattle.exh_everyday.specs.Founds.{AreFoundIn, AreOfFile, IsFaultOf, IsFoundOne, IsOfFile};
 
 use crate::found::Found;
+use crate::open_file::{OpenFile, SystemFile};
 use exh_backup::unread_at;
-use exh_direct::{Blocks, DirectFault};
+use exh_direct::DirectFault;
 use exh_in_place::{Reading, read_one_state};
 use exh_page::{Key, Value};
 use exh_run::Run;
-use exh_system::{FileBlocks, Reason, with_reason};
+use exh_system::Reason;
 use exh_walked::find_any;
 use exhash::StoreError;
 use std::alloc::Global;
@@ -44,32 +45,45 @@ struct KeysReading<'k> {
     reason: &'k Reason,
 }
 
-// Finds the values of keys in the blocks of a page file, whatever they are of: of a legal file its map's. They stand behind what
-// is found by then.
+// Finds the values of keys in a page file; of a legal file they are its map's. They stand behind what is found by then.
 //
 // Errors: as of `find_any`.
-fn find_all<B: Blocks>(
+fn find_all<F: OpenFile>(
     alloc: Global,
-    blocks: &mut B,
+    file: &F,
     keys: &[Key],
     found: &mut Found,
-) -> Result<(), DirectFault> {
+) -> Result<(), DirectFault>
+    ensures found { OnOk result (AreOfFile (F.known file.now) keys.now found.old found.new) }
+    ensures refused { IfErr result (IsFaultOf (F.known file.now)) }
+{
     for key in keys {
-        let value = value_in(alloc, blocks, key)?;
-        found.push(key, value)?;
+        find_one(alloc, file, key, found)?;
     }
     Ok(())
 }
 
-// The value of a key in the blocks of a page file.
-fn value_in<B: Blocks>(
+// Finds the value of a key in the same way.
+fn find_one<F: OpenFile>(
     alloc: Global,
-    blocks: &mut B,
+    file: &F,
     key: &Key,
-) -> Result<Option<Value>, DirectFault>
-    ensures legal { IsOfLegal (B.known blocks.old) key.now (B.reads blocks.old) (B.reads blocks.new) result }
+    found: &mut Found,
+) -> Result<(), DirectFault>
+    ensures found { OnOk result (IsFoundOne (F.known file.now) key.now found.old found.new) }
+    ensures refused { IfErr result (IsFaultOf (F.known file.now)) }
 {
-    find_any(alloc, blocks, key)
+    let value = value_in(alloc, file, key)?;
+    Ok(found.push(key, value)?)
+}
+
+// The value of a key in a page file.
+fn value_in<F: OpenFile>(alloc: Global, file: &F, key: &Key) -> Result<Option<Value>, DirectFault>
+    ensures found { IfOk result (IsOfFile (F.known file.now) key.now) }
+    ensures refused { IfErr result (IsFaultOf (F.known file.now)) }
+{
+    let mut blocks = file.blocks()?;
+    find_any(alloc, &mut blocks, key)
 }
 
 impl Reading for KeysReading<'_> {
@@ -79,13 +93,22 @@ impl Reading for KeysReading<'_> {
 
     fn read(&mut self, file: &File) -> Result<Found, DirectFault> {
         self.reason.set(None);
-        match with_reason(FileBlocks::new(file, self.reason), self.reason) {
-            Ok(mut blocks) => {
-                let mut found = Found::new(self.alloc);
-                find_all(self.alloc, &mut blocks, self.keys, &mut found)?;
-                Ok(found)
-            }
-            Err(_) => Err(DirectFault::Read),
-        }
+        let file = SystemFile {
+            file,
+            reason: self.reason,
+        };
+        found_in(self.alloc, &file, self.keys)
     }
+}
+
+// What keys have in a page file.
+//
+// Errors: as of `find_any`.
+fn found_in<F: OpenFile>(alloc: Global, file: &F, keys: &[Key]) -> Result<Found, DirectFault>
+    ensures found { IfOk result (AreFoundIn (F.known file.now) keys.now) }
+    ensures refused { IfErr result (IsFaultOf (F.known file.now)) }
+{
+    let mut found = Found::new(alloc);
+    find_all(alloc, file, keys, &mut found)?;
+    Ok(found)
 }

@@ -13,6 +13,7 @@ mod deletion;
 mod found;
 mod get;
 mod key_values;
+mod open_file;
 mod performing;
 mod printing;
 mod shown;

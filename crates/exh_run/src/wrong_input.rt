@@ -1,3 +1,6 @@
+ghost use Rattle.std.specs.Prelude.{◌≡◌};
+ghost use Rattle.exh_run.specs.declared.wrong_input.WrongInput.TheVariants as wrong;
+
 use std::alloc::{AllocError, AllocFailed};
 use std::io;
 use thiserror::Error;
@@ -29,12 +32,16 @@ pub enum WrongInput {
 }
 
 impl From<AllocError> for WrongInput {
+    ghost from_gives = { λ _ fault. fault ≡ wrong.Memory };
+
     fn from(_error: AllocError) -> WrongInput {
         WrongInput::Memory
     }
 }
 
 impl<T: Drop> From<AllocFailed<T>> for WrongInput {
+    ghost from_gives = { λ _ fault. fault ≡ wrong.Memory };
+
     fn from(_error: AllocFailed<T>) -> WrongInput {
         WrongInput::Memory
     }
