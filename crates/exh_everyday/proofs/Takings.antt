@@ -9,7 +9,7 @@ use Rattle.std.proofs.lemmas.List.{map-append}
 use Rattle.std.proofs.lemmas.Map.Lookups.{exact_bytes}
 use Rattle.exh_page.specs.KeyMap.{KeyMap}
 use Rattle.exh_calls.specs.Effect.{effect_of}
-use Rattle.exh_calls.specs.MapMachine.{changed, is_full, map_after}
+use Rattle.exh_calls.specs.MapMachine.{changed}
 use Rattle.exh_calls.specs.declared.call.Call.TheVariants.{Del}
 use Rattle.exh_file.specs.FileChange.{HasMap}
 use Rattle.exh_file.specs.Opened.{OpenedState}
@@ -67,14 +67,13 @@ among_end last (first ∷ keys) = inr (among_end last keys)
 
 -- ---- one key more
 
-without_more : (cap : ℕ) (pseudo : List ℕ → ℕ) (whole left : KeyMap) (keys : List (List ℕ)) (key : List ℕ) → IsWithout whole keys left → IsWithout whole (keys ++ key ∷ []) (map_after cap pseudo left (Del key))
-without_more cap pseudo whole left keys key was =
+without_more : (whole left : KeyMap) (keys : List (List ℕ)) (key : List ℕ) (full : Bool) → IsWithout whole keys left → IsWithout whole (keys ++ key ∷ []) (changed (effect_of (Del key) full (fin.get left key)).change key left)
+without_more whole left keys key full was =
     let stood = fin.get left key in
-    let full = is_full cap pseudo left key in
     record {
       out = λ other among. elim (among_last other key keys among) [
         | inl before ↦ still_none left key other stood full (was.out other before)
-        | inr same ↦ subst (λ (k : List ℕ). fin.get (map_after cap pseudo left (Del key)) k ≡ None) (sym same) (removed_here left key stood full refl)
+        | inr same ↦ subst (λ (k : List ℕ). fin.get (changed (effect_of (Del key) full stood).change key left) k ≡ None) (sym same) (removed_here left key stood full refl)
       ];
       others = λ other not.
           others_stay left key other stood full (λ same. not (subst (λ (k : List ℕ). IsAmong k (keys ++ key ∷ [])) (sym same) (among_end key keys)))
@@ -86,13 +85,13 @@ out_more whole before [] key value out last = (subst (λ (keys : List (List ℕ)
 out_more whole before (one ∷ asked) key value out last =
     (out.0, out_more whole (before ++ one.0 ∷ []) asked key value out.1 (subst (λ (keys : List (List ℕ)). IsOut whole keys key value) (sym (append_assoc before (one.0 ∷ []) (keys_of asked))) last))
 
-left_more : (cap : ℕ) (pseudo : List ℕ → ℕ) (whole : KeyMap) (asked : List Asked) (key : List ℕ) (value : Option (List ℕ)) (now new : OpenedState)
-    → (was : IsLeft whole asked now) → value ≡ fin.get was.left key → HasMap new (map_after cap pseudo was.left (Del key)) → IsLeft whole (asked ++ (key, value) ∷ []) new
-left_more cap pseudo whole asked key value now new was is has = record {
+left_more : (whole : KeyMap) (asked : List Asked) (key : List ℕ) (value : Option (List ℕ)) (now new : OpenedState)
+    → (was : IsLeft whole asked now) → value ≡ fin.get was.left key → HasMap new (map_then now was.left (Del key)) → IsLeft whole (asked ++ (key, value) ∷ []) new
+left_more whole asked key value now new was is has = record {
   had = out_more whole [] asked key value was.had (record { left = was.left; without = was.without; is = is });
-  left = map_after cap pseudo was.left (Del key);
+  left = map_then now was.left (Del key);
   map = has;
-  without = subst (λ (keys : List (List ℕ)). IsWithout whole keys (map_after cap pseudo was.left (Del key))) (sym (map-append (λ (one : Asked). one.0) asked ((key, value) ∷ []))) (without_more cap pseudo whole was.left (keys_of asked) key was.without);
+  without = subst (λ (keys : List (List ℕ)). IsWithout whole keys (map_then now was.left (Del key))) (sym (map-append (λ (one : Asked). one.0) asked ((key, value) ∷ []))) (without_more whole was.left (keys_of asked) key true was.without);
 }
 
 -- ---- all of them
@@ -112,7 +111,7 @@ taken_one old now new keys at other before found after within so_far one = recor
   taken = λ whole has.
       let was = so_far.taken whole has in
       let removed = one.1.0 was.left was.map in
-      left_more _ _ whole so_far.asked (get_or keys at other) one.0 now new was removed.answer_is removed.map;
+      left_more whole so_far.asked (get_or keys at other) one.0 now new was removed.answer_is removed.map;
 }
 
 pub taken_out : (old new : OpenedState) (keys : List (List ℕ)) (before after : Found) → before.pairs ≡ [] → before.absent.items ≡ [] → AreTaken old keys before after new → AreTakenOut keys after

@@ -21,12 +21,12 @@ pub record AreReadTo (is_hex : Bool) (lines keys left : List (List ℕ)) : Type 
 pub none_read : (is_hex : Bool) (lines : List (List ℕ)) → AreReadTo is_hex lines [] lines
 none_read is_hex lines = record { before = []; are = refl; keys_are = refl }
 
-pub one_read : (is_hex : Bool) (lines keys left rest : List (List ℕ)) (line key : List ℕ) → AreReadTo is_hex lines keys left → left ≡ line ∷ rest → key_of_line is_hex line ≡ Some key → AreReadTo is_hex lines (keys ++ key ∷ []) rest
-one_read is_hex lines keys left rest line key was steps is = record {
+pub one_read : (is_hex : Bool) (lines keys left next rest : List (List ℕ)) (line key : List ℕ) → AreReadTo is_hex lines keys left → left ≡ line ∷ rest → key_of_line is_hex line ≡ Some key → next ≡ keys ++ key ∷ [] → AreReadTo is_hex lines next rest
+one_read is_hex lines keys left next rest line key was steps is pushed = record {
   before = was.before ++ line ∷ [];
   are = was.are ∙ ap (λ left. was.before ++ left) steps ∙ sym (append_assoc was.before (line ∷ []) rest);
   keys_are = map-append (key_of_line is_hex) was.before (line ∷ []) ∙ ap (λ front. front ++ key_of_line is_hex line ∷ []) was.keys_are
-      ∙ ap (λ one. map Some keys ++ one ∷ []) is ∙ sym (map-append Some keys (key ∷ []));
+      ∙ ap (λ one. map Some keys ++ one ∷ []) is ∙ sym (map-append Some keys (key ∷ [])) ∙ sym (ap (map Some) pushed);
 }
 
 pub all_read : (is_hex : Bool) (lines keys left : List (List ℕ)) → AreReadTo is_hex lines keys left → left ≡ [] → AreKeys is_hex lines keys
@@ -35,7 +35,7 @@ all_read is_hex lines keys left was none =
 
 -- as many lines as keys were read
 counted_keys : (is_hex : Bool) (before keys : List (List ℕ)) → AreKeys is_hex before keys → length before ≡ length keys
-counted_keys is_hex before keys are = sym (length-map (key_of_line is_hex) before) ∙ ap length are ∙ length-map Some keys
+counted_keys is_hex before keys are = sym (length-map before (key_of_line is_hex)) ∙ ap length are ∙ length-map keys Some
 
 pub first_other : (is_hex : Bool) (lines keys left rest : List (List ℕ)) (line : List ℕ) (number : ℕ) → AreReadTo is_hex lines keys left → left ≡ line ∷ rest → key_of_line is_hex line ≡ None → number ≡ length keys + 1 → IsFirstOther is_hex lines number
 first_other is_hex lines keys left rest line number was steps is counted = record {
@@ -64,8 +64,12 @@ keys_of_none is_hex text none = ([], (inl (none, refl), refl))
 
 -- more digits than of the longest key spell none
 pub too_many_digits : (digits : List ℕ) (decoded : Result (List ℕ) FromHexError) → decode_of digits ≡ decoded → KEY_LIMIT < length digits / 2 → if_key (bytes_decoded decoded) ≡ None
-too_many_digits digits (Ok bytes) is many = ap (λ b. cond b (Some bytes) None) (out_of_range bytes (omega (arith, many, (decode_of-ok digits bytes is).2.2.0)))
+too_many_digits digits (Ok bytes) is many = ap (λ b. cond b (Some bytes) None) (out_of_range bytes (omega (arith, many, (decode_of-ok digits bytes is).2)))
   where
     out_of_range : (bytes : List ℕ) → KEY_LIMIT < length bytes → key_in_range bytes ≡ false
     out_of_range bytes many = grind (arith)
 too_many_digits digits (Err error) is many = refl
+
+pub no_key_of_digits : (digits : List ℕ) → (bytes_decoded (decode_of digits) ≡ None) ⊎ (KEY_LIMIT < length digits / 2) → key_of_line true digits ≡ None
+no_key_of_digits digits (inl none) = ap if_key none
+no_key_of_digits digits (inr many) = too_many_digits digits (decode_of digits) refl many

@@ -149,6 +149,7 @@ fn key_of_line(line: &[u8], is_hex: bool) -> Option<Key>
 }
 
 // The key that hexadecimal digits spell.
+#[tactic(auto, using(crate::proofs::Inputs::no_key_of_digits))]
 fn key_of_digits(digits: &[u8]) -> Option<Key>
     ensures { result ≡ key_of_line true digits.now }
 {
