@@ -29,6 +29,9 @@ option_named name =
     else (if bytes_eq name (codes "create") then Some option.Create
     else (if bytes_eq name (codes "atomic") then Some option.Atomic
     else (if bytes_eq name (codes "rejects") then Some option.Rejects
+    else (if bytes_eq name (codes "header") then Some option.Header
+    else (if bytes_eq name (codes "key") then Some option.Key
+    else (if bytes_eq name (codes "value") then Some option.Value
     else (if bytes_eq name (codes "bare") then Some option.Bare
     else (if bytes_eq name (codes "json") then Some option.Json
     else (if bytes_eq name (codes "wait") then Some option.Wait
@@ -38,7 +41,7 @@ option_named name =
     else (if bytes_eq name (codes "from") then Some option.From
     else (if bytes_eq name (codes "cap") then Some option.Cap
     else (if bytes_eq name (codes "wards") then Some option.Wards
-    else (if bytes_eq name (codes "keyer") then Some option.Keyer else None))))))))))))))
+    else (if bytes_eq name (codes "keyer") then Some option.Keyer else None)))))))))))))))))
 
 abbrev pub is_same_option : CommandOption → CommandOption → Bool
 is_same_option option.Wait option.Wait = true
@@ -54,6 +57,9 @@ is_same_option option.Format option.Format = true
 is_same_option option.Create option.Create = true
 is_same_option option.Atomic option.Atomic = true
 is_same_option option.Rejects option.Rejects = true
+is_same_option option.Header option.Header = true
+is_same_option option.Key option.Key = true
+is_same_option option.Value option.Value = true
 is_same_option option.Bare option.Bare = true
 is_same_option option.Json option.Json = true
 is_same_option option other = false
@@ -73,6 +79,9 @@ has_value option.Format = true
 has_value option.Create = false
 has_value option.Atomic = false
 has_value option.Rejects = true
+has_value option.Header = false
+has_value option.Key = true
+has_value option.Value = true
 has_value option.Bare = false
 has_value option.Json = false
 
@@ -98,6 +107,9 @@ takes Import option.Hex = true
 takes Import option.Create = true
 takes Import option.Atomic = true
 takes Import option.Rejects = true
+takes Import option.Header = true
+takes Import option.Key = true
+takes Import option.Value = true
 takes Import option.Cap = true
 takes Import option.Wards = true
 takes Import option.Keyer = true

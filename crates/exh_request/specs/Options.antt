@@ -12,7 +12,7 @@ use Rattle.exh_pair_text.specs.Formats.{format_named}
 use Rattle.exh_pair_text.specs.declared.pair_format.PairFormat.{PairFormat}
 use Rattle.exh_pair_text.specs.declared.pair_format.PairFormat.TheVariants.{Words}
 use Rattle.exh_request.specs.declared.command_option.CommandOption.{CommandOption}
-use Rattle.exh_request.specs.declared.command_option.CommandOption.TheVariants.{Atomic, Bare, Cap, Create, Format, From, Hex, Json, Keyer, New, Raw, Replace, Wait, Wards}
+use Rattle.exh_request.specs.declared.command_option.CommandOption.TheVariants.{Atomic, Bare, Cap, Create, Format, From, Header, Hex, Json, Keyer, New, Raw, Replace, Wait, Wards}
 use Rattle.exh_request.specs.declared.given_settings.GivenSettings.{GivenSettings}
 use Rattle.exh_request.specs.declared.options.Options.{Options}
 use Rattle.exh_request.specs.declared.options.TheConstants.{USUAL_WAIT, WAIT_LIMIT}
@@ -116,7 +116,7 @@ options_by uses = do
   is_from ← from_word (value_given From uses)
   when ← when_by (is_used New uses) (is_used Replace uses)
   format ← format_of_word (value_given Format uses)
-  Ok (record { wait = wait; form = record { is_hex = is_used Hex uses; is_raw = is_used Raw uses }; when = when; is_from = is_from; given = given; format = format; is_create = is_used Create uses; is_atomic = is_used Atomic uses; is_bare = is_used Bare uses; is_json = is_used Json uses })
+  Ok (record { wait = wait; form = record { is_hex = is_used Hex uses; is_raw = is_used Raw uses }; when = when; is_from = is_from; given = given; format = format; has_header = is_used Header uses; is_create = is_used Create uses; is_atomic = is_used Atomic uses; is_bare = is_used Bare uses; is_json = is_used Json uses })
 
 -- each option is used at most once
 abbrev pub once : Option CommandOption → Result Options WrongCause → Result Options WrongCause

@@ -20,6 +20,9 @@ pub enum CommandOption {
     Create,
     Atomic,
     Rejects,
+    Header,
+    Key,
+    Value,
     Bare,
     Json,
 }
@@ -41,6 +44,9 @@ impl CommandOption {
             CommandOption::Create => "create",
             CommandOption::Atomic => "atomic",
             CommandOption::Rejects => "rejects",
+            CommandOption::Header => "header",
+            CommandOption::Key => "key",
+            CommandOption::Value => "value",
             CommandOption::Bare => "bare",
             CommandOption::Json => "json",
         }
@@ -56,12 +62,14 @@ impl CommandOption {
             CommandOption::Keyer => "`sha` or `plain`",
             CommandOption::Format => "`words`, `tsv`, `jsonl` or `csv`",
             CommandOption::Rejects => "the path of a new file, in UTF-8",
+            CommandOption::Key | CommandOption::Value => "a name in UTF-8",
             CommandOption::Hex
             | CommandOption::Raw
             | CommandOption::New
             | CommandOption::Replace
             | CommandOption::Create
             | CommandOption::Atomic
+            | CommandOption::Header
             | CommandOption::Bare
             | CommandOption::Json => "no value",
         }
@@ -77,6 +85,9 @@ impl CommandOption {
             _ if is_word(name, "create") => Some(CommandOption::Create),
             _ if is_word(name, "atomic") => Some(CommandOption::Atomic),
             _ if is_word(name, "rejects") => Some(CommandOption::Rejects),
+            _ if is_word(name, "header") => Some(CommandOption::Header),
+            _ if is_word(name, "key") => Some(CommandOption::Key),
+            _ if is_word(name, "value") => Some(CommandOption::Value),
             _ if is_word(name, "bare") => Some(CommandOption::Bare),
             _ if is_word(name, "json") => Some(CommandOption::Json),
             b"wait" => Some(CommandOption::Wait),
@@ -102,13 +113,16 @@ impl CommandOption {
             | CommandOption::Wards
             | CommandOption::Keyer
             | CommandOption::Format
-            | CommandOption::Rejects => true,
+            | CommandOption::Rejects
+            | CommandOption::Key
+            | CommandOption::Value => true,
             CommandOption::Hex
             | CommandOption::Raw
             | CommandOption::New
             | CommandOption::Replace
             | CommandOption::Create
             | CommandOption::Atomic
+            | CommandOption::Header
             | CommandOption::Bare
             | CommandOption::Json => false,
         }
@@ -132,6 +146,9 @@ impl CommandOption {
             | (CommandOption::Create, CommandOption::Create)
             | (CommandOption::Atomic, CommandOption::Atomic)
             | (CommandOption::Rejects, CommandOption::Rejects)
+            | (CommandOption::Header, CommandOption::Header)
+            | (CommandOption::Key, CommandOption::Key)
+            | (CommandOption::Value, CommandOption::Value)
             | (CommandOption::Bare, CommandOption::Bare)
             | (CommandOption::Json, CommandOption::Json) => true,
             _ => false,

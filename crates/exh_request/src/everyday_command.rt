@@ -91,6 +91,9 @@ impl EverydayCommand {
                 | CommandOption::Create
                 | CommandOption::Atomic
                 | CommandOption::Rejects
+                | CommandOption::Header
+                | CommandOption::Key
+                | CommandOption::Value
                 | CommandOption::Cap
                 | CommandOption::Wards
                 | CommandOption::Keyer,

@@ -30,6 +30,8 @@ pub(crate) struct Options {
     pub(crate) is_from: bool,
     pub(crate) given: GivenSettings,
     pub(crate) format: PairFormat,
+    /// Whether a record stands before the others that names the columns.
+    pub(crate) has_header: bool,
     /// Whether a file is made where none is.
     pub(crate) is_create: bool,
     /// Whether all pairs are put in or none.
@@ -64,6 +66,7 @@ impl Options {
             is_from,
             given,
             format,
+            has_header: line.uses(CommandOption::Header),
             is_create: line.uses(CommandOption::Create),
             is_atomic: line.uses(CommandOption::Atomic),
             is_bare: line.uses(CommandOption::Bare),

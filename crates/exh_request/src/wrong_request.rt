@@ -24,6 +24,12 @@ pub enum WrongCause {
     NewAndReplace,
     /// Settings stand there, and no file is made.
     SettingsOfNone,
+    /// `--header` stands there, and the format isn't `csv`.
+    HeaderOfNone,
+    /// `--key` or `--value` stands there, and the format has no names.
+    NamesOfNone,
+    /// One of the two stands there of comma-separated fields.
+    OneName,
     /// `--raw` stands there without one key alone.
     RawKeys,
     /// A word is missing that stands for this.
@@ -57,6 +63,17 @@ impl fmt::Display for WrongRequest {
             WrongCause::SettingsOfNone => write!(
                 f,
                 "`{command}` takes --cap, --wards and --keyer only beside --create"
+            ),
+            WrongCause::HeaderOfNone => {
+                write!(f, "`{command}` takes --header only beside --format csv")
+            }
+            WrongCause::NamesOfNone => write!(
+                f,
+                "`{command}` takes --key and --value only beside --format jsonl, or csv with --header"
+            ),
+            WrongCause::OneName => write!(
+                f,
+                "`{command} --header` takes --key and --value both, or neither"
             ),
             WrongCause::RawKeys => write!(f, "`{command} --raw` takes one KEY"),
             WrongCause::Missing(place) => write!(f, "`{command}` takes {}", place.with_article()),
