@@ -2,3 +2,5 @@
 pub mod Texts
 pub mod Puts
 pub mod Ends
+-- of what stands before the pairs
+pub mod Heads

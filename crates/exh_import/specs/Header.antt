@@ -12,10 +12,9 @@ use Rattle.exh_import.specs.declared.heading.Heading.{Heading}
 use Rattle.exh_import.specs.declared.import_fault.ImportFault.{ImportFault}
 use Rattle.exh_import.specs.declared.import_fault.ImportFault.TheVariants.{Header, LongLine, Memory, OtherFormat, Read}
 use Rattle.exh_import.specs.declared.line_reader.LineReader.{LineReader}
-use Rattle.exh_import.specs.Causes.{AreWholeLines, IsLong, whole_lines}
+use Rattle.exh_import.specs.Causes.{IsLong}
 use Rattle.exh_import.specs.Counting.{first_opening}
 use Rattle.exh_import.specs.Imports.{IsTextOf}
-use Rattle.exh_import.specs.LineReader.{AreTaken, text_left}
 
 -- no header: a text has no pairs, and perhaps an opening
 abbrev pub bare : Bool → Heading
@@ -63,13 +62,15 @@ pub record HasHeader (names : Option (List ℕ × List ℕ)) (wrong : WrongHeade
   pub columns_are : columns_in names header ≡ Err wrong
   pub stands : StandBefore (front ++ header ∷ []) known left
 
+-- behind lines of the text stands one that is too long
 pub record HasLongHeader (number : ℕ) (known left : Option (List ℕ)) : Type 0 where
   pub front : List (List ℕ)
-  pub lines : AreWholeLines Csv front
   pub number_is : number ≡ length front + 1
+  pub middle : Option (List ℕ)
+  pub stands : StandBefore front known middle
   pub long : List ℕ
   pub is_long : IsLong Csv long
-  pub given : Consumes known left (whole_lines front ++ long)
+  pub given : Consumes middle left long
 
 abbrev pub IsHeadingCause : {R : Type 0} → Option (List ℕ × List ℕ) → Option (List ℕ) → Option (List ℕ) → LineReader R → ImportFault → Type 0
 IsHeadingCause names known left lines Memory = ⊤
@@ -95,16 +96,27 @@ IsHeadCause names line Memory = ⊤
 IsHeadCause names line (Header wrong) = columns_in names line ≡ Err wrong
 IsHeadCause names line fault = ⊥
 
+-- of a line that is read, if there is one
+abbrev pub IsLineRead : List ℕ → Option (List ℕ) → Option (List ℕ) → Bool → Type 0
+IsLineRead line known left true = StandBefore (line ∷ []) known left
+IsLineRead line known left false = IsAtEnd left × StandBefore [] known left
+
+abbrev pub IsLongCause : {R : Type 0} → ℕ → Option (List ℕ) → Option (List ℕ) → LineReader R → ImportFault → Type 0
+IsLongCause number known left lines Memory = ⊤
+IsLongCause number known left lines Read = IsTrue (reader_failed lines.source)
+IsLongCause number known left lines (LongLine told) = (told ≡ number) × ((long : List ℕ) × (IsLong Csv long × Consumes known left long))
+IsLongCause number known left lines fault = ⊥
+
 -- behind an opening: the header, where the text goes on
 abbrev pub IsBehind : Option (List ℕ × List ℕ) → Option (List ℕ) → List (List ℕ) → Heading → Type 0
 IsBehind names left [] heading = (heading ≡ bare true) × IsAtEnd left
 IsBehind names left (header ∷ []) heading = Heads names true header heading
 IsBehind names left (header ∷ next ∷ more) heading = ⊥
 
--- why there is none behind an opening
-abbrev pub IsBehindCause : {R : Type 0} → Option (List ℕ × List ℕ) → (R → Option (List ℕ)) → LineReader R → LineReader R → ImportFault → Type 0
-IsBehindCause names remaining old new Memory = ⊤
-IsBehindCause names remaining old new Read = IsTrue (reader_failed new.source)
-IsBehindCause names remaining old new (LongLine number) = (number ≡ 2) × ((long : List ℕ) × (IsLong Csv long × AreTaken remaining old new long))
-IsBehindCause names remaining old new (Header wrong) = (line : List ℕ) × ((columns_in names line ≡ Err wrong) × StandBefore (line ∷ []) (text_left remaining old) (text_left remaining new))
-IsBehindCause names remaining old new fault = ⊥
+-- why there is none there
+abbrev pub IsBehindCause : {R : Type 0} → Option (List ℕ × List ℕ) → Option (List ℕ) → Option (List ℕ) → LineReader R → ImportFault → Type 0
+IsBehindCause names known left lines Memory = ⊤
+IsBehindCause names known left lines Read = IsTrue (reader_failed lines.source)
+IsBehindCause names known left lines (LongLine told) = (told ≡ 2) × ((long : List ℕ) × (IsLong Csv long × Consumes known left long))
+IsBehindCause names known left lines (Header wrong) = (line : List ℕ) × ((columns_in names line ≡ Err wrong) × StandBefore (line ∷ []) known left)
+IsBehindCause names known left lines fault = ⊥

@@ -2,7 +2,7 @@
 ghost use Rattle.std.specs.Prelude.{◌≡◌, List, ℕ, IfErr, IfOk, OnOk};
 ghost use Rattle.exh_stream.specs.Source.{SameReader};
 ghost use Rattle.exh_pair_text.specs.Header.{names_of};
-ghost use Rattle.exh_import.specs.Header.{Heads, IsBehind, IsBehindCause, IsHeadCause, IsHeaded, IsHeadingCause, IsOpening, IsOpeningCause, StandBefore, bare};
+ghost use Rattle.exh_import.specs.Header.{Heads, IsBehind, IsBehindCause, IsHeadCause, IsHeaded, IsHeadingCause, IsLineRead, IsLongCause, IsOpening, IsOpeningCause, StandBefore, bare};
 ghost use Rattle.exh_import.specs.LineReader.{EndsRight, text_left};
 
 use crate::line_reader::LineReader;
@@ -51,10 +51,9 @@ pub fn take_heading<R: Read>(
         × StandBefore front (text_left R.remaining lines.old) (text_left R.remaining lines.new))) }
     ensures cause { IfErr result (IsHeadingCause (names_of names.entry) (text_left R.remaining lines.old) (text_left R.remaining lines.new) lines.new) }
 {
-    if lines.is_over()? {
+    if !take_line(lines, 1)? {
         return Ok(bare(false));
     }
-    lines.next_line(FORMAT, 1)?;
     if is_opening(alloc, lines.line())? {
         take_header(alloc, lines, names)
     } else {
@@ -73,13 +72,28 @@ fn take_header<R: Read>(
     ensures ends { OnOk result (EndsRight R.remaining lines.new) }
     ensures heading { IfOk result (λ heading. (front : List (List ℕ)) × (IsBehind (names_of names.entry) (text_left R.remaining lines.new) front heading
         × StandBefore front (text_left R.remaining lines.old) (text_left R.remaining lines.new))) }
-    ensures cause { IfErr result (IsBehindCause (names_of names.entry) R.remaining lines.old lines.new) }
+    ensures cause { IfErr result (IsBehindCause (names_of names.entry) (text_left R.remaining lines.old) (text_left R.remaining lines.new) lines.new) }
+{
+    if take_line(lines, 2)? {
+        heading_of(alloc, true, names, lines.line())
+    } else {
+        Ok(bare(true))
+    }
+}
+
+// Takes the next line, which has this number, and says whether there is one.
+fn take_line<R: Read>(lines: &mut LineReader<'_, R>, number: u64) -> Result<bool, ImportFault>
+    requires ends { EndsRight R.remaining lines.old }
+    ensures same_reader { SameReader lines.old.source lines.new.source }
+    ensures ends { OnOk result (EndsRight R.remaining lines.new) }
+    ensures line { IfOk result (IsLineRead lines.new.line.items (text_left R.remaining lines.old) (text_left R.remaining lines.new)) }
+    ensures cause { IfErr result (IsLongCause number (text_left R.remaining lines.old) (text_left R.remaining lines.new) lines.new) }
 {
     if lines.is_over()? {
-        return Ok(bare(true));
+        return Ok(false);
     }
-    lines.next_line(FORMAT, 2)?;
-    heading_of(alloc, true, names, lines.line())
+    lines.next_line(FORMAT, number)?;
+    Ok(true)
 }
 
 // Whether a text's first line opens an export of comma-separated fields.

@@ -1,5 +1,5 @@
 -- The columns that a header gives: those of two names, or, where none are asked for, both of two.
-use Rattle.std.specs.Prelude.{ℕ, ◌==◌, List, length, count_by, nat_lt, position, if◌then◌else◌, Option, Some, None, Result, Ok, Err}
+use Rattle.std.specs.Prelude.{ℕ, ◌+◌, ◌==◌, Bool, List, [], ◌∷◌, length, count_by, nat_lt, if◌then◌else◌, Option, Some, None, Result, Ok, Err}
 use Rattle.std.specs.Borrow.{Bor}
 use Rattle.std.specs.Str.{bytes_eq}
 use Rattle.exh_csv.specs.Fields.{fields_in}
@@ -24,14 +24,23 @@ abbrev pub names_of : Option (Bor FieldNames) → Option (List ℕ × List ℕ)
 names_of None = None
 names_of (Some names) = Some (names.now.key.now, names.now.value.now)
 
--- the first place of a name among so many
+-- a field is the name
+abbrev pub is_named : List ℕ → List ℕ → Bool
+is_named name field = bytes_eq field name
+
+-- the first place of a name among fields, of which the first stands at this place
+abbrev pub place_from : ℕ → List ℕ → List (List ℕ) → Option ℕ
+place_from at name [] = None
+place_from at name (field ∷ fields) = if is_named name field then Some at else place_from (at + 1) name fields
+
+-- the first place of a name that so many fields are
 abbrev pub only_by : Field → ℕ → Option ℕ → Result ℕ WrongHeader
 only_by field count None = Err (NoColumn field)
 only_by field count (Some at) = if nat_lt 1 count then Err (TwoColumns field) else Ok at
 
 -- the place of the only field that is a name
 abbrev pub column_named : Field → List ℕ → List (List ℕ) → Result ℕ WrongHeader
-column_named field name fields = only_by field (count_by (bytes_eq name) fields) (position (bytes_eq name) fields)
+column_named field name fields = only_by field (count_by (is_named name) fields) (place_from 0 name fields)
 
 unfoldable pub named_columns : List ℕ → List ℕ → List (List ℕ) → Result Columns WrongHeader
 named_columns key value fields = do

@@ -120,14 +120,14 @@ json_bytes field hex name digits_name json = do
   either_bytes field hex text digits
 
 -- by those of the key, and those of the value
-unfoldable pub named_pair : Bool → List ℕ × List ℕ → List ℕ × List ℕ → Json → Result (List ℕ × List ℕ) WrongLine
-named_pair hex key_names value_names json = do
-  key ← json_bytes Key hex key_names.0 key_names.1 json >>= key_of_bytes
-  value ← json_bytes Value hex value_names.0 value_names.1 json >>= value_of_bytes
+unfoldable pub named_pair : Bool → List ℕ → List ℕ → List ℕ → List ℕ → Json → Result (List ℕ × List ℕ) WrongLine
+named_pair hex key_name key_digits value_name value_digits json = do
+  key ← json_bytes Key hex key_name key_digits json >>= key_of_bytes
+  value ← json_bytes Value hex value_name value_digits json >>= value_of_bytes
   Ok (key, value)
 
 unfoldable pub object_pair : Bool → List ℕ → List ℕ → Json → Result (List ℕ × List ℕ) WrongLine
-object_pair hex key value json = named_pair hex (key, digits_of key) (value, digits_of value) json
+object_pair hex key value json = named_pair hex key (digits_of key) value (digits_of value) json
 
 -- the pair of a line that is an object, with fields of these names
 unfoldable pub json_pair : Bool → List ℕ → List ℕ → List ℕ → Result (List ℕ × List ℕ) WrongLine

@@ -26,7 +26,7 @@ pub(crate) fn csv_pair(
 }
 
 // The pair of the fields of a record.
-#[tactic(auto, unfolding(crate::specs::Reading::fields_pair))]
+#[tactic(auto, using(crate::proofs::Records::chosen, crate::proofs::Records::unchosen))]
 fn fields_pair(
     is_hex: bool,
     columns: Columns,
@@ -34,12 +34,11 @@ fn fields_pair(
 ) -> Result<(Key, Value), WrongLine>
     ensures { result ≡ fields_pair is_hex columns (map (λ field. field.items) fields.now) }
 {
-    let count = fields.len();
-    if count == columns.width && columns.key < count && columns.value < count {
+    if columns.fit(fields.len()) {
         two_spelled(is_hex, &fields[columns.key], &fields[columns.value])
     } else {
         Err(WrongLine::Fields {
-            count,
+            count: fields.len(),
             wanted: columns.width,
         })
     }

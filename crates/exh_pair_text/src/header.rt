@@ -1,7 +1,6 @@
 //! The columns that a header gives.
-ghost use Rattle.std.specs.Prelude.{◌≡◌, IfOk, count_by, map, position};
-ghost use Rattle.std.specs.Str.{bytes_eq};
-ghost use Rattle.exh_pair_text.specs.Header.{both_columns, column_named, columns_by, columns_in, named_columns, names_of};
+ghost use Rattle.std.specs.Prelude.{◌≡◌, IfOk, count_by, map, nat_lt};
+ghost use Rattle.exh_pair_text.specs.Header.{both_columns, column_named, columns_by, columns_in, is_named, named_columns, names_of, place_from};
 
 use crate::reading::own_text;
 use crate::{Columns, Field, FieldNames, PairFormat, WrongHeader};
@@ -68,28 +67,45 @@ fn column_named(field: Field, name: &str, fields: &[Vec<u8>]) -> Result<usize, W
 {
     match place_in(name, fields) {
         None => Err(WrongHeader::NoColumn(field)),
-        Some(_) if count_in(name, fields) > 1 => Err(WrongHeader::TwoColumns(field)),
+        Some(_) if is_repeated(name, fields) => Err(WrongHeader::TwoColumns(field)),
         Some(at) => Ok(at),
     }
 }
 
 // The first place of a name among fields.
 fn place_in(name: &str, fields: &[Vec<u8>]) -> Option<usize>
-    ensures { result ≡ position (bytes_eq name.now) (map (λ field. field.items) fields.now) }
+    ensures { result ≡ place_from 0 name.now (map (λ field. field.items) fields.now) }
 {
-    fields.iter().position(|field| is_name(name, field))
+    let mut at = 0;
+    for field in fields {
+        if is_name(name, field.as_slice()) {
+            return Some(at);
+        }
+        at += 1;
+    }
+    None
+}
+
+// Whether more than one of the fields is a name.
+fn is_repeated(name: &str, fields: &[Vec<u8>]) -> bool
+    ensures { result ≡ nat_lt 1 (count_by (is_named name.now) (map (λ field. field.items) fields.now)) }
+{
+    count_in(name, fields) > 1
 }
 
 // How many of the fields are a name.
 fn count_in(name: &str, fields: &[Vec<u8>]) -> usize
-    ensures { result ≡ count_by (bytes_eq name.now) (map (λ field. field.items) fields.now) }
+    ensures { result ≡ count_by (is_named name.now) (map (λ field. field.items) fields.now) }
 {
-    fields.iter().filter(|field| is_name(name, field)).count()
+    fields
+        .iter()
+        .filter(|field| is_name(name, field.as_slice()))
+        .count()
 }
 
 // Whether a field is a name.
 fn is_name(name: &str, field: &[u8]) -> bool
-    ensures { result ≡ bytes_eq name.now field.now }
+    ensures { result ≡ is_named name.now field.now }
 {
-    name.as_bytes() == field
+    field == name.as_bytes()
 }

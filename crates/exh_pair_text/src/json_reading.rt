@@ -46,8 +46,10 @@ fn object_pair(
     let value_digits = digits_name(alloc, names.value)?;
     Ok(named_pair(
         is_hex,
-        (names.key, key_digits.as_str()),
-        (names.value, value_digits.as_str()),
+        names.key,
+        key_digits.as_str(),
+        names.value,
+        value_digits.as_str(),
         json,
     ))
 }
@@ -65,14 +67,16 @@ fn digits_name(alloc: Global, name: &str) -> Result<String, AllocError>
 #[tactic(auto, unfolding(crate::specs::Reading::named_pair))]
 fn named_pair(
     is_hex: bool,
-    key: (&str, &str),
-    value: (&str, &str),
+    key: &str,
+    key_digits: &str,
+    value: &str,
+    value_digits: &str,
     json: &Json<'_>,
 ) -> Result<(Key, Value), WrongLine>
-    ensures { result ≡ named_pair is_hex (key.entry.0.now, key.entry.1.now) (value.entry.0.now, value.entry.1.now) (value_view json.now) }
+    ensures { result ≡ named_pair is_hex key.now key_digits.now value.now value_digits.now (value_view json.now) }
 {
-    let key = json_bytes(Field::Key, is_hex, key.0, key.1, json)?.key()?;
-    let value = json_bytes(Field::Value, is_hex, value.0, value.1, json)?.value()?;
+    let key = json_bytes(Field::Key, is_hex, key, key_digits, json)?.key()?;
+    let value = json_bytes(Field::Value, is_hex, value, value_digits, json)?.value()?;
     Ok((key, value))
 }
 
