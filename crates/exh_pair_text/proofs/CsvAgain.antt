@@ -1,5 +1,5 @@
 -- The record of a pair reads as the pair; how it begins and ends.
-use Rattle.std.proofs.Common.{◌≡◌, ◌≢◌, ℕ, suc, ◌+◌, ◌-◌, ◌≤◌, ◌⊎◌, List, [], ◌∷◌, ◌++◌, length, get_or, Bool, true, false, cond, Ok, inl, inr, refl, sym, ap, ◌∙◌, flat_map, append_assoc, length-append, arith}
+use Rattle.std.proofs.Common.{◌≡◌, ◌≢◌, ℕ, suc, ◌-◌, ◌≤◌, ◌⊎◌, List, [], ◌∷◌, ◌++◌, length, get_or, Bool, true, false, cond, Ok, inl, inr, refl, sym, ap, ◌∙◌, flat_map, length-append, arith}
 use Rattle.std.specs.Prelude.{nat_eq, ◌||◌}
 use Rattle.std.specs.List.{list_any, starts_with}
 use Rattle.std.proofs.lemmas.Bool.{ne_eqb}
@@ -7,9 +7,8 @@ use Rattle.std.proofs.lemmas.Bool.Decides.{nat_tests}
 use Rattle.std.proofs.lemmas.List.Elements.{recursion_from_All}
 use Rattle.hex.specs.Hex.{lower_digits}
 use Rattle.hex.proofs.HexLemmas.{length-encode_with}
-use Rattle.exh_csv.specs.Fields.{fields_in}
 use Rattle.exh_csv.specs.Laws.{FieldsAreRead}
-use Rattle.exh_csv.specs.Rows.{doubled, field_words, is_special, needs_quotes, quoted, row_words}
+use Rattle.exh_csv.specs.Rows.{doubled, field_words, is_special, needs_quotes, quoted}
 use Rattle.exh_pair_text.specs.declared.field.Field.{Field}
 use Rattle.exh_pair_text.specs.declared.field.Field.TheVariants.{Key, Value}
 use Rattle.exh_pair_text.specs.Lines.{csv_words}

@@ -12,7 +12,6 @@ use Rattle.std.proofs.lemmas.Option.{cond_some}
 use Rattle.std.proofs.lemmas.Slice.Eq.{bytes_eq-Decides, starts_is}
 use Rattle.hex.specs.Hex.{lower_digits}
 use Rattle.hex.proofs.HexLemmas.{length-encode_with}
-use Rattle.exh_csv.specs.declared.place.Place.{Place}
 use Rattle.exh_csv.specs.declared.place.Place.TheVariants.{Start, Quoted}
 use Rattle.exh_csv.specs.Laws.{FieldsAreRead, RecordsAreWhole}
 use Rattle.exh_csv.specs.Places.{AreQuoted, place_behind}
