@@ -1,13 +1,13 @@
 //! Why words give no request, before it is said of which command.
 ghost use Rattle.std.specs.Prelude.{◌≡◌};
-ghost use Rattle.exh_request.specs.declared.cause_or_memory.CauseOrMemory.TheVariants.{Memory, Wrong};
+ghost use Rattle.exh_words.specs.declared.cause_or_memory.CauseOrMemory.TheVariants.{Memory, Wrong};
 
 use crate::WrongCause;
 use std::alloc::{AllocError, AllocFailed};
 
 /// What is wrong with the words of a command, or want of memory.
 #[derive(Clone, Copy)]
-pub(crate) enum CauseOrMemory {
+pub enum CauseOrMemory {
     Wrong(WrongCause),
     Memory,
 }

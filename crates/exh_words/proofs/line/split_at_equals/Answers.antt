@@ -1,8 +1,8 @@
 use Rattle.std.proofs.Common.{eqb, sym, ◌∙◌, rules, tests}
 use Rattle.std.proofs.lemmas.Iterator.{YieldsList-from_slice}
 use Rattle.std.proofs.lemmas.Iterator.Search.{position_from_yields_List}
-use Rattle.exh_request.proofs.Lines.{split_none, split_some}
-use Rattle.exh_request.proofs.line.split_at_equals.Goals as goal
+use Rattle.exh_words.proofs.Lines.{split_none, split_some}
+use Rattle.exh_words.proofs.line.split_at_equals.Goals as goal
 
 pub returns-in-Some : goal.returns-in-Some
 returns-in-Some c =

@@ -1,8 +1,8 @@
 //! The words of a command, parted into places and options.
 ghost use Rattle.std.specs.Prelude.{◌≡◌, map, option_map, false, Ok, IfOk, IfErr, OnOk, count_by, nat_lt};
-ghost use Rattle.exh_request.specs.Causes.{IsCauseOf};
-ghost use Rattle.exh_request.specs.Line.{after_word, ends_options, free_word, line_asked, line_text, met_word, named_option, split_at_equals, used_option, with_last};
-ghost use Rattle.exh_request.specs.Options.{is_of, is_used, repeated, value_given};
+ghost use Rattle.exh_words.specs.Causes.{IsCauseOf};
+ghost use Rattle.exh_words.specs.Line.{after_word, ends_options, free_word, line_asked, line_text, met_word, named_option, split_at_equals, used_option, with_last};
+ghost use Rattle.exh_words.specs.Uses.{is_of, is_used, repeated, value_given};
 
 use crate::cause_or_memory::CauseOrMemory;
 use crate::{CommandOption, EverydayCommand, WrongCause};
@@ -10,23 +10,23 @@ use std::alloc::{AllocError, Global};
 
 /// An option as the words use it: with its value, which is empty for a flag.
 #[derive(Clone, Copy)]
-pub(crate) struct Use<'w> {
-    pub(crate) option: CommandOption,
-    pub(crate) value: &'w [u8],
+pub struct Use<'w> {
+    pub option: CommandOption,
+    pub value: &'w [u8],
 }
 
 /// A word that stands at a place, and whether it stands behind `--`.
 #[derive(Clone, Copy)]
-pub(crate) struct Placed<'w> {
-    pub(crate) word: &'w [u8],
-    pub(crate) is_behind: bool,
+pub struct Placed<'w> {
+    pub word: &'w [u8],
+    pub is_behind: bool,
 }
 
 /// The words behind a command: those that stand at its places, and the options that are used, each in its order.
 #[derive(Drop)]
-pub(crate) struct Line<'w> {
-    pub(crate) places: Vec<Placed<'w>>,
-    pub(crate) uses: Vec<Use<'w>>,
+pub struct Line<'w> {
+    pub places: Vec<Placed<'w>>,
+    pub uses: Vec<Use<'w>>,
 }
 
 // How far words are read.
@@ -51,7 +51,7 @@ enum Met<'w> {
 
 impl<'w> Line<'w> {
     /// The words behind a command, parted. `NoValue`: the last is an option without its value.
-    pub(crate) fn read(
+    pub fn read(
         alloc: Global,
         command: EverydayCommand,
         words: &'w [Vec<u8>],
@@ -88,21 +88,21 @@ impl<'w> Line<'w> {
     }
 
     /// The value of an option, `None` where it isn't used.
-    pub(crate) fn value(&self, option: CommandOption) -> Option<&'w [u8]>
+    pub fn value(&self, option: CommandOption) -> Option<&'w [u8]>
         ensures { option_map (λ value. value.now) result ≡ value_given option (map used_option self.now.uses.items) }
     {
         value_in(self.uses.as_slice(), option)
     }
 
     /// Whether an option is used.
-    pub(crate) fn uses(&self, option: CommandOption) -> bool
+    pub fn uses(&self, option: CommandOption) -> bool
         ensures { result ≡ is_used option (map used_option self.now.uses.items) }
     {
         self.value(option).is_some()
     }
 
     /// The first option that is used twice, if one is.
-    pub(crate) fn repeated(&self) -> Option<CommandOption>
+    pub fn repeated(&self) -> Option<CommandOption>
         ensures { result ≡ repeated (map used_option self.now.uses.items) }
     {
         repeated_in(self.uses.as_slice())

@@ -2,9 +2,9 @@
 use Rattle.std.proofs.Common.{◌≡◌, ◌∙◌, ℕ, ◌+◌, ◌<◌, false, List, length, drop, get_or, map, cond, Some, ap}
 use Rattle.std.specs.Prelude.{count_by, nat_lt}
 use Rattle.std.proofs.lemmas.List.{drop_more}
-use Rattle.exh_request.specs.declared.line.Use.{Use}
-use Rattle.exh_request.specs.Line.{UsedOption, used_option}
-use Rattle.exh_request.specs.Options.{is_of, repeated_of}
+use Rattle.exh_words.specs.declared.line.Use.{Use}
+use Rattle.exh_words.specs.Line.{UsedOption, used_option}
+use Rattle.exh_words.specs.Uses.{is_of, repeated_of}
 
 -- an option that is used once is passed over
 pub repeated_step : (all : List UsedOption) (uses : List Use) (i : ℕ) (other : Use) → i < length uses → nat_lt 1 (count_by (is_of (get_or uses i other).option) all) ≡ false

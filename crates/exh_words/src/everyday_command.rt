@@ -1,6 +1,6 @@
 //! The everyday commands.
 ghost use Rattle.std.specs.Prelude.{◌≡◌};
-ghost use Rattle.exh_request.specs.Commands.{command_named, command_word, takes};
+ghost use Rattle.exh_words.specs.Commands.{command_named, command_word, takes};
 
 use crate::CommandOption;
 use crate::word::is_word;
@@ -43,7 +43,7 @@ impl EverydayCommand {
 
     /// The command that a word calls, `None` where it calls no everyday one.
     #[tactic(auto, unfolding(crate::specs::Commands::command_named))]
-    pub(crate) fn named(word: &[u8]) -> Option<EverydayCommand>
+    pub fn named(word: &[u8]) -> Option<EverydayCommand>
         ensures { result ≡ command_named word.now }
     {
         match word {

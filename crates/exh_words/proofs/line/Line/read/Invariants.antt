@@ -1,8 +1,8 @@
 use Rattle.std.proofs.Common.{drop, map}
-use Rattle.exh_request.specs.declared.line.Reading.TheVariants.{Between}
-use Rattle.exh_request.specs.Line.{line_text}
-use Rattle.exh_request.proofs.Lines.{IsReadTo}
-use Rattle.exh_request.proofs.line.Line.read.Given as goal
+use Rattle.exh_words.specs.declared.line.Reading.TheVariants.{Between}
+use Rattle.exh_words.specs.Line.{line_text}
+use Rattle.exh_words.proofs.Lines.{IsReadTo}
+use Rattle.exh_words.proofs.line.Line.read.Given as goal
 
 -- the words so far are parted, and those behind them go on from there
 abbrev pub invariant-loop-word : goal.invariant-loop-word

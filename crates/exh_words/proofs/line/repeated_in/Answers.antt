@@ -1,7 +1,7 @@
 use Rattle.std.proofs.Common.{◌∙◌, map, sym}
-use Rattle.exh_request.specs.Line.{used_option}
-use Rattle.exh_request.proofs.Repeats.{repeated_step}
-use Rattle.exh_request.proofs.line.repeated_in.Goals as goal
+use Rattle.exh_words.specs.Line.{used_option}
+use Rattle.exh_words.proofs.Repeats.{repeated_step}
+use Rattle.exh_words.proofs.line.repeated_in.Goals as goal
 
 pub loop-one-preserved : goal.loop-one-preserved
 loop-one-preserved c =

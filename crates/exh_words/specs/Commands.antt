@@ -1,10 +1,10 @@
 -- The everyday commands, and their options.
 use Rattle.std.specs.Prelude.{ℕ, Bool, true, false, List, Option, Some, None, codes, if◌then◌else◌}
 use Rattle.std.specs.Str.{bytes_eq}
-use Rattle.exh_request.specs.declared.everyday_command.EverydayCommand.{EverydayCommand}
-use Rattle.exh_request.specs.declared.everyday_command.EverydayCommand.TheVariants.{Create, Get, Put, Del, Swap, Backup, Import, Export, Compact, Stats, Salvage}
-use Rattle.exh_request.specs.declared.command_option.CommandOption.{CommandOption}
-use Rattle.exh_request.specs.declared.command_option.CommandOption.TheVariants as option
+use Rattle.exh_words.specs.declared.everyday_command.EverydayCommand.{EverydayCommand}
+use Rattle.exh_words.specs.declared.everyday_command.EverydayCommand.TheVariants.{Create, Get, Put, Del, Swap, Backup, Import, Export, Compact, Stats, Salvage}
+use Rattle.exh_words.specs.declared.command_option.CommandOption.{CommandOption}
+use Rattle.exh_words.specs.declared.command_option.CommandOption.TheVariants as option
 
 -- the command that a word calls
 unfoldable pub command_named : List ℕ → Option EverydayCommand

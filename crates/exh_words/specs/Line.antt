@@ -2,18 +2,18 @@
 use Rattle.std.specs.Prelude.{◌+◌, ◌==◌, ℕ, Bool, true, false, List, [], ◌∷◌, ◌++◌, map, take, drop, position, Option, Some, None, option_and_then, Result, Ok, Err, codes, if◌then◌else◌}
 use Rattle.std.specs.Str.{bytes_eq}
 use Rattle.exh_text.specs.Numbers.{after_prefix}
-use Rattle.exh_request.specs.declared.everyday_command.EverydayCommand.{EverydayCommand}
-use Rattle.exh_request.specs.declared.command_option.CommandOption.{CommandOption}
-use Rattle.exh_request.specs.declared.wrong_request.WrongCause.{WrongCause}
-use Rattle.exh_request.specs.declared.wrong_request.WrongCause.TheVariants.{NoValue}
-use Rattle.exh_request.specs.declared.line.Reading.{Reading}
-use Rattle.exh_request.specs.declared.line.Reading.TheVariants.{Between, Wanting, Ended}
-use Rattle.exh_request.specs.declared.line.Met.{Met}
-use Rattle.exh_request.specs.declared.line.Met.TheVariants as met
-use Rattle.exh_request.specs.declared.line.Placed.{Placed}
-use Rattle.exh_request.specs.declared.line.Use.{Use}
-use Rattle.exh_request.specs.declared.line.Line.{Line}
-use Rattle.exh_request.specs.Commands.{has_value, option_named, takes}
+use Rattle.exh_words.specs.declared.everyday_command.EverydayCommand.{EverydayCommand}
+use Rattle.exh_words.specs.declared.command_option.CommandOption.{CommandOption}
+use Rattle.exh_words.specs.declared.wrong_request.WrongCause.{WrongCause}
+use Rattle.exh_words.specs.declared.wrong_request.WrongCause.TheVariants.{NoValue}
+use Rattle.exh_words.specs.declared.line.Reading.{Reading}
+use Rattle.exh_words.specs.declared.line.Reading.TheVariants.{Between, Wanting, Ended}
+use Rattle.exh_words.specs.declared.line.Met.{Met}
+use Rattle.exh_words.specs.declared.line.Met.TheVariants as met
+use Rattle.exh_words.specs.declared.line.Placed.{Placed}
+use Rattle.exh_words.specs.declared.line.Use.{Use}
+use Rattle.exh_words.specs.declared.line.Line.{Line}
+use Rattle.exh_words.specs.Commands.{has_value, option_named, takes}
 
 -- a word at a place, and whether it stands behind `--`
 pub record PlacedWord : Type 0 where

@@ -1,6 +1,6 @@
 //! The options of the everyday commands.
 ghost use Rattle.std.specs.Prelude.{◌≡◌};
-ghost use Rattle.exh_request.specs.Commands.{has_value, is_same_option, option_named};
+ghost use Rattle.exh_words.specs.Commands.{has_value, is_same_option, option_named};
 
 use crate::word::is_word;
 

@@ -1,7 +1,7 @@
 use Rattle.std.proofs.Common.{◌≡◌, drop, map}
-use Rattle.exh_request.specs.Line.{used_option}
-use Rattle.exh_request.specs.Options.{value_given}
-use Rattle.exh_request.proofs.line.value_in.Given as goal
+use Rattle.exh_words.specs.Line.{used_option}
+use Rattle.exh_words.specs.Uses.{value_given}
+use Rattle.exh_words.proofs.line.value_in.Given as goal
 
 -- it is found among those that are left
 abbrev pub invariant-loop-one : goal.invariant-loop-one

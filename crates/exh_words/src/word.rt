@@ -3,7 +3,7 @@ ghost use Rattle.std.specs.Prelude.{◌≡◌};
 ghost use Rattle.std.specs.Str.{bytes_eq};
 
 /// Whether a word is this one.
-pub(crate) fn is_word(word: &[u8], known: &str) -> bool
+pub fn is_word(word: &[u8], known: &str) -> bool
     ensures { result ≡ bytes_eq word.now known.now }
 {
     word == known.as_bytes()
