@@ -1,6 +1,8 @@
 -- What stands before the pairs of a text of comma-separated fields.
 use Rattle.std.proofs.Common.{◌≡◌, ◌≢◌, ℕ, ◌+◌, Bool, true, false, List, [], ◌∷◌, ◌++◌, length, Option, Some, None, IfSome, Result, Ok, Err, IfErr, inl, inr, refl, sym, ap, ◌∙◌, subst, append_assoc, append-nil, length-append, arith}
+use Rattle.std.specs.Prelude.{not}
 use Rattle.std.specs.Io.KnownBytes.{Consumes, IsAtEnd, Keeps}
+use Rattle.std.proofs.lemmas.Bool.{false≢true}
 use Rattle.std.proofs.KnownBytes.{Consumes-kept, Consumes-nil, Consumes-trans}
 use Rattle.exh_text.specs.TextLines.{newline}
 use Rattle.exh_pair_text.specs.Records.{IsEnded, IsOneLine}
@@ -16,6 +18,14 @@ use Rattle.exh_import.specs.Imports.{IsTextOf}
 use Rattle.exh_import.specs.LineReader.{EndsRight, IsOver, TakesNext, text_left}
 use Rattle.exh_import.proofs.Texts.{over_end}
 
+pub if_err_map : {T E : Type 0} (result : Result T E) (P Q : E → Type 0) → IfErr result P → ((fault : E) → P fault → Q fault) → IfErr result Q
+if_err_map (Ok made) P Q holds more = tt
+if_err_map (Err fault) P Q holds more = more fault holds
+
+pub was_taken : (b : Bool) → not b ≡ false → b ≡ true
+was_taken true is = refl
+was_taken false is = absurd (false≢true (sym is))
+
 -- ---- lines before others
 
 no_bytes : (line rest : List ℕ) → [] ≡ line ++ newline ∷ rest → ⊥
@@ -23,19 +33,19 @@ no_bytes line rest is = omega (arith, ap length is, length-append line (newline 
 
 no_lines : (lines : List (List ℕ)) → IsTextOf Csv lines [] → lines ≡ []
 no_lines [] is = refl
-no_lines (line ∷ lines) (one, inl (rest, (ended, (is, more)))) = absurd (no_bytes line rest is)
-no_lines (line ∷ lines) (one, inr (is, (some, none))) = absurd (some (sym is))
+no_lines (line ∷ lines) (one, inl (rest, ended, is, more)) = absurd (no_bytes line rest is)
+no_lines (line ∷ lines) (one, inr (is, some, none)) = absurd (some (sym is))
 
 whole_stands : (known left : Option (List ℕ)) (line : List ℕ) → IsOneLine Csv line → IsEnded Csv line → Consumes known left (line ++ newline ∷ []) → StandBefore (line ∷ []) known left
 whole_stands None left line one ended given lines text_is = tt
 whole_stands (Some text) None line one ended given lines text_is = absurd given
-whole_stands (Some text) (Some rest) line one ended given lines text_is = (one, inl (rest, (ended, (given ∙ append_assoc line (newline ∷ []) rest, text_is))))
+whole_stands (Some text) (Some rest) line one ended given lines text_is = (one, inl (rest, ended, given ∙ append_assoc line (newline ∷ []) rest, text_is))
 
 last_stands : (known left : Option (List ℕ)) (line : List ℕ) → IsOneLine Csv line → line ≢ [] → IsAtEnd left → Consumes known left line → StandBefore (line ∷ []) known left
 last_stands None left line one some end given lines text_is = tt
 last_stands (Some text) None line one some end given lines text_is = absurd given
 last_stands (Some text) (Some rest) line one some end given lines text_is =
-    (one, inr (given ∙ ap (λ (more : List ℕ). line ++ more) end ∙ append-nil line, (some, no_lines lines (subst (IsTextOf Csv lines) end text_is))))
+    (one, inr (given ∙ ap (λ (more : List ℕ). line ++ more) end ∙ append-nil line, some, no_lines lines (subst (IsTextOf Csv lines) end text_is)))
 
 none_stands : (known left : Option (List ℕ)) → Consumes known left [] → StandBefore [] known left
 none_stands None left given lines text_is = tt
@@ -58,7 +68,7 @@ module _ {R : Type 0} (remaining : R → Option (List ℕ)) where
 
   next_stands : (old new : LineReader R) → TakesNext Csv remaining old new → EndsRight remaining new → StandBefore (new.line.items ∷ []) (text_left remaining old) (text_left remaining new)
   next_stands old new (one, inl (ended, given)) ends = whole_stands (text_left remaining old) (text_left remaining new) new.line.items one ended given
-  next_stands old new (one, inr (given, (some, over))) ends = last_stands (text_left remaining old) (text_left remaining new) new.line.items one some (over_end remaining new ends over) given
+  next_stands old new (one, inr (given, some, over)) ends = last_stands (text_left remaining old) (text_left remaining new) new.line.items one some (over_end remaining new ends over) given
 
   pub one_read : (old middle new : LineReader R) → Keeps (text_left remaining old) (text_left remaining middle) → TakesNext Csv remaining middle new → EndsRight remaining new
       → IsLineRead new.line.items (text_left remaining old) (text_left remaining new) true
