@@ -6,8 +6,7 @@ pub const ABOUT: &str = "Puts the pairs of a text into a page file";
 /// How it is used.
 pub const USAGE: &str = "exhash import PATH [--format words|tsv|jsonl|csv] [--header]
          [--key NAME] [--value NAME] [--hex] [--atomic] [--rejects FILE]
-         [--wait SECONDS]
-         [--create [--cap N] [--wards N] [--keyer K]] < PAIRS
+         [--wait SECONDS] [--create [--cap N] [--wards N] [--keyer K]] < PAIRS
 
 Words behind `--` are no options, as in import -- --hex.
 
@@ -35,13 +34,14 @@ format `jsonl` it is a JSON object with the fields `key` and `value`, or others
 that --key and --value name; in a field with _hex behind its name are
 hexadecimal digits. Of the format `csv` it is a record of two fields, without a
 header: what stands in quotes may have commas, newlines and, twice each, quotes.
-With --header the first record names the columns, and --key and --value name the
-two that are taken; without these there are two, the first with the keys. A
-header without such a column, or with two of its name, ends the import before
-anything is put in. With --hex both are hexadecimal digits. What `exhash export`
-prints goes in as it was. Where its first line is there and its last is missing,
-the text was cut: its last line isn't put in, and with --atomic none is. Empty
-lines are passed over. A line of more than 65536 bytes ends the import.
+With --header the first record, behind a byte order mark or not, names the
+columns, and --key and --value name the two that are taken; without these there
+are two, the first with the keys. A header without such a column, or with two of
+its name, ends the import before anything is put in. With --hex keys and values
+are hexadecimal digits. What `exhash export` prints goes in as it was. Where its
+first line is there and its last is missing, the text was cut: its last line
+isn't put in, and with --atomic none is. Empty lines are passed over. A line of
+more than 65536 bytes ends the import.
 Each line that is wrong, and each key that finds no room, is named on standard
 error, or with --rejects in the new file FILE, with its number, what is wrong
 and its text, as three fields of the format `tsv`. Then one line is printed,
@@ -54,8 +54,8 @@ by `exhash create`.
 Exit status:
   0  all pairs are in the file
   1  the file, or FILE, can't be read or written or isn't legal, the text is cut
-     off, has a line that is too long, a wrong header or can't be read, or memory
-     ends
+     off, has a wrong header or a line that is too long, or can't be read, or
+     memory ends
   2  the command line is wrong, or asks for help
   3  with --atomic: a line is wrong, or a key finds no room; nothing is changed.
      Something is at FILE already

@@ -16,8 +16,7 @@ pub const USAGE: &str = "exhash create PATH [--cap N] [--wards N] [--keyer K]
        exhash backup PATH NEW [--wait SECONDS]
        exhash import PATH [--format words|tsv|jsonl|csv] [--header]
          [--key NAME] [--value NAME] [--hex] [--atomic] [--rejects FILE]
-         [--wait SECONDS]
-         [--create [--cap N] [--wards N] [--keyer K]] < PAIRS
+         [--wait SECONDS] [--create [--cap N] [--wards N] [--keyer K]] < PAIRS
        exhash export PATH [--format words|tsv|jsonl|csv] [--hex] [--bare]
          [--wait SECONDS]
        exhash compact PATH [--cap N] [--wards N] [--keyer K]

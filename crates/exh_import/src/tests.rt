@@ -585,6 +585,7 @@ fn headed(
         fails: false,
     };
     let mut lines = LineReader::new(alloc, &mut reader);
+    lines.pass_mark()?;
     let heading = take_heading(alloc, &mut lines, names)?;
     import(alloc, &mut lines, store, &records(heading), told)
 }
@@ -592,7 +593,7 @@ fn headed(
 // A text with a header, how many pairs it puts, lines it has, lines are rejected, and whether it is cut off.
 type HeadedRow = (&'static [u8], u64, u64, u64, bool);
 
-const HEADED: [HeadedRow; 9] = [
+const HEADED: [HeadedRow; 12] = [
     (b"", 0, 0, 0, false),
     (b"\"a\nb\",n,name", 0, 1, 0, false),
     (b"name,\"a\nb\"\r\nk,v\r\n\r\nl,w", 2, 4, 0, false),
@@ -620,6 +621,16 @@ const HEADED: [HeadedRow; 9] = [
     ),
     (b"# exhash export csv\nname,\"a\nb\"\n", 0, 2, 0, true),
     (b"# exhash export csv\r\n", 0, 1, 0, true),
+    // Behind a byte order mark.
+    (b"\xef\xbb\xbf", 0, 0, 0, false),
+    (b"\xef\xbb\xbf\"a\nb\",name\nv,k\n", 1, 2, 0, false),
+    (
+        b"\xef\xbb\xbf# exhash export csv\nname,\"a\nb\"\nk,v\n# exhash end 1\n",
+        1,
+        4,
+        0,
+        false,
+    ),
 ];
 
 #[test]
@@ -650,7 +661,7 @@ type Headless = (&'static [u8], Option<FieldNames<'static>>, ImportFault);
 
 #[test]
 fn wrong_headers_end_an_import(rt: HostRuntime) -> Result<(), Fail> {
-    let texts: [Headless; 6] = [
+    let texts: [Headless; 7] = [
         (
             b"name,b\nk,v\n",
             Some(NAMES),
@@ -665,6 +676,11 @@ fn wrong_headers_end_an_import(rt: HostRuntime) -> Result<(), Fail> {
             b"# exhash export csv\n# exhash end 0\n",
             None,
             ImportFault::Header(WrongHeader::NotTwo { count: 1 }),
+        ),
+        (
+            b"\xef\xbbname,b\n",
+            Some(NAMES),
+            ImportFault::Header(WrongHeader::NoColumn(Field::Key)),
         ),
         (
             b"\nname,b\n",

@@ -22,6 +22,7 @@ impl Columns {
             width: 2,
         }
     }
+
     // Whether a record of so many fields has them.
     pub(crate) fn fit(self, count: usize) -> bool
         ensures fit { result ≡ has_columns self count }

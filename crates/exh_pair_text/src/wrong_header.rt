@@ -12,9 +12,9 @@ pub enum WrongHeader {
     #[error("2 columns are wanted where none is named, and the header has {count}")]
     NotTwo { count: usize },
     /// No column has the name of the key or value.
-    #[error("the header has no column of the name of the {0}'s")]
+    #[error("the header has no column with the name of the {0}'s")]
     NoColumn(Field),
     /// More than one has it.
-    #[error("the header has more than one column of the name of the {0}'s")]
+    #[error("the header has more than one column with the name of the {0}'s")]
     TwoColumns(Field),
 }

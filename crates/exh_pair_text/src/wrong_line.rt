@@ -34,16 +34,16 @@ pub enum WrongLine {
     #[error("it is no JSON object")]
     NoJson,
     /// The object has neither the field of the key or value nor the one with its hexadecimal digits.
-    #[error("it has no field for its {0}, with `_hex` behind the name or without")]
+    #[error("it has neither the field for its {0} nor that with `_hex` behind the name")]
     NoField(Field),
     /// The field of the key or value has no string.
-    #[error("the field of its {0} has no string")]
+    #[error("the field for its {0} has no string")]
     NoString(Field),
     /// The string has another byte than hexadecimal digits, or an odd number of them.
     #[error("its {0} in hexadecimal digits has another byte, or an odd number of digits")]
     NoHex(Field),
     /// The object has both fields.
-    #[error("it has two fields for its {0}, with `_hex` behind the name and without")]
+    #[error("it has both the field for its {0} and that with `_hex` behind the name")]
     TwoFields(Field),
     /// The line is no record of comma-separated fields.
     #[error("{0}")]

@@ -201,11 +201,11 @@ fn tell_header(run: &Run<'_>, texts: &GivenTexts<'_>, wrong: &WrongHeader) {
     let _ = match wrong {
         WrongHeader::NoColumn(field) => {
             let name = Escaped(name_of(texts, *field));
-            eprintln!(run.rt; "exhash: {INPUT}: the header has no column {name}")
+            eprintln!(run.rt; "exhash: {INPUT}: the header has no column `{name}`")
         }
         WrongHeader::TwoColumns(field) => {
             let name = Escaped(name_of(texts, *field));
-            eprintln!(run.rt; "exhash: {INPUT}: the header has more than one column {name}")
+            eprintln!(run.rt; "exhash: {INPUT}: the header has more than one column `{name}`")
         }
         WrongHeader::NotTwo { count } => eprintln!(run.rt;
             "exhash: {INPUT}: 2 columns are wanted without --key and --value, and the header has {count}"

@@ -1,6 +1,6 @@
 //! The run of an import.
 ghost use Rattle.std.specs.Prelude.{◌≡◌, [], IsFalse, OnOk};
-ghost use Rattle.exh_import.specs.LineReader.{EndsRight};
+ghost use Rattle.exh_import.specs.LineReader.{EndsRight, waiting};
 ghost use Rattle.exh_stream.specs.Output.{SameWriter, held, pending, writer_failed};
 ghost use Rattle.exh_transfer.specs.Imports.{ImportEnds};
 
@@ -113,6 +113,7 @@ fn heading_of<R: Read>(
     lines: &mut LineReader<'_, R>,
 ) -> Result<Heading, ImportFault>
     requires ends { EndsRight R.remaining lines.old }
+    requires fresh { waiting lines.old ≡ [] }
     ensures ends { OnOk result (EndsRight R.remaining lines.new) }
 {
     if !words.has_header {
@@ -121,6 +122,7 @@ fn heading_of<R: Read>(
             columns: Columns::two(),
         });
     }
+    lines.pass_mark()?;
     match (texts.key, texts.value) {
         (Some(key), Some(value)) => {
             take_heading(run.rt.alloc(), lines, Some(&FieldNames { key, value }))
