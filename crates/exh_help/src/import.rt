@@ -20,11 +20,11 @@ Examples:
 /// What help says behind its options.
 pub const TEXT: &str = "\
 It puts the pairs of standard input into the file, one a line; a key that is
-there gets the new value. The text may have any length. The file is saved every
-16384 pairs, and others may change it before the next pair; how many pairs are
-put in then is said on standard error, once a second at most. With --atomic all
-pairs are put in at once, or, where a line is wrong or a key finds no room,
-none.
+there gets the new value. The text may have any length. The file is saved behind
+16384 pairs, and then each time as many more are put in as are saved; others may
+change it before the next pair. How many pairs are put in then is said on
+standard error, once a second at most. With --atomic all pairs are put in at
+once, or, where a line is wrong or a key finds no room, none.
 A line of the format `words` is
   KEY VALUE
 with both as `exhash pairs` prints them; of the format `tsv` both stand as they

@@ -46,9 +46,9 @@ saved taking = record taking { unsaved = 0; is_saved = true }
 abbrev pub rested : Taking → Taking
 rested taking = record taking { is_saved = false }
 
--- as many pairs are put as one batch has
+-- as many pairs are put as a batch has, and as were committed before
 abbrev pub is_due : Taking → Bool
-is_due taking = not taking.options.is_atomic && nat_le taking.options.batch taking.unsaved
+is_due taking = not taking.options.is_atomic && (nat_le taking.options.batch taking.unsaved && nat_le (taking.imported.pairs - taking.unsaved) taking.unsaved)
 
 -- ---- exports
 

@@ -14,6 +14,7 @@ pub struct ImportOptions<'n> {
     pub begun: Begun,
     /// All pairs are committed at the end, or, where a line was rejected or the text is cut off, none.
     pub is_atomic: bool,
-    /// So many pairs are put from one commit to the next, where they aren't all committed at the end. 0 is as 1.
+    /// At least so many pairs are put from one commit to the next, where they aren't all committed at the end, and as many
+    /// as were committed before. 0 is as 1.
     pub batch: u64,
 }

@@ -168,12 +168,14 @@ impl<'n> Taking<'n> {
         Ok(())
     }
 
-    // Commits where as many pairs are put as one batch has.
+    // Commits where as many pairs are put as a batch has, and as were committed before: so all commits together cost a few
+    // times the last.
     fn save_batch<S: ImportedStore>(&mut self, store: &mut S) -> Result<(), ImportFault>
         ensures cause { IfErr result (IsStoreCause S.refused store.new) }
         ensures saved { OnOk result (SavesBatch S.saves self.old store.old self.new store.new) }
     {
-        if self.options.is_atomic || self.unsaved < self.options.batch {
+        let before = self.imported.pairs.saturating_sub(self.unsaved);
+        if self.options.is_atomic || self.unsaved < self.options.batch || self.unsaved < before {
             return Ok(());
         }
         self.save(store)

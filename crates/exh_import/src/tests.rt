@@ -313,6 +313,27 @@ fn pairs_are_committed_in_batches(rt: HostRuntime) -> Result<(), Fail> {
 }
 
 #[test]
+fn a_batch_has_as_many_pairs_as_were_committed(rt: HostRuntime) -> Result<(), Fail> {
+    let mut store = FakeStore::new(rt.alloc());
+    let mut told = Told {
+        lines: Vec::new(rt.alloc()),
+    };
+    let text = b"a 1\nb 1\nc 1\nd 1\ne 1\nf 1\ng 1\nh 1\ni 1\nj 1\n";
+    let found = imported(
+        rt.alloc(),
+        text.as_slice(),
+        7,
+        &words(false),
+        &mut store,
+        &mut told,
+    );
+    assert!(rt; found.is_ok());
+    assert!(rt; store.commits.as_slice() == [2, 4, 8, 10].as_slice());
+    assert!(rt; store.rests.as_slice() == [2, 4, 8].as_slice());
+    Ok(())
+}
+
+#[test]
 fn no_rest_comes_behind_the_last_put(rt: HostRuntime) -> Result<(), Fail> {
     let mut store = FakeStore::new(rt.alloc());
     let mut told = Told {

@@ -22,7 +22,7 @@ use exhash::{Settings, Store, StoreError, make};
 use std::cell::Cell;
 use std::io::{Read, Write};
 
-// How many pairs are put in between two commits.
+// Behind how many pairs the first commit comes; behind each other one at least as many come as it has in the file.
 const BATCH: u64 = 16_384;
 
 /// Puts the pairs of standard input into the page file, line by line. Lines that aren't put in are named on standard error, or
