@@ -16,9 +16,9 @@ _exhash() {
         pairs | create | compact | import)
             options='--cap --wards --keyer --help'
             [[ ${COMP_WORDS[1]} == pairs ]] || options+=' --wait'
-            [[ ${COMP_WORDS[1]} != import ]] || options+=' --format --hex --atomic --rejects --create'
+            [[ ${COMP_WORDS[1]} != import ]] || options+=' --format --header --key --value --hex --atomic --rejects --create'
             case $last in
-                --cap | --wards | --wait) return ;;
+                --cap | --wards | --wait | --key | --value) return ;;
                 --format)
                     mapfile -t COMPREPLY < <(compgen -W 'words tsv jsonl csv' -- "$word")
                     return

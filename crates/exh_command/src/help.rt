@@ -6,9 +6,9 @@ ghost use Rattle.exh_command.specs.CommandFault.{IsWrong, TellsVersion};
 use crate::fault::CliFault;
 use crate::names::{
     ATOMIC, BACKUP, BARE, CAP, CHECK, COMPACT, CONVERT, CREATE, CREATE_FLAG, DEL, DUMP, EXPORT,
-    FILE, FORMAT, FROM, GET, HELP, HEX, IMPORT, JSON, KEYER, KEYER_NAME, LOAD, MANUAL, NEW_FLAG,
-    NUMBER, PAIRS, PROGRAM, PUT, RAW, REJECTS, REPLACE, SALVAGE, SERVE, STATS, STORM, SWAP,
-    VERSION, WAIT, WARDS,
+    FILE, FORMAT, FROM, GET, HEADER, HELP, HEX, IMPORT, JSON, KEY, KEYER, KEYER_NAME, LOAD, MANUAL,
+    NAME, NEW_FLAG, NUMBER, PAIRS, PROGRAM, PUT, RAW, REJECTS, REPLACE, SALVAGE, SERVE, STATS,
+    STORM, SWAP, VALUE, VERSION, WAIT, WARDS,
 };
 use crate::parser::{
     bare_command, bare_program, check, convert, dump, flag, load, manual, option, pairs, serve,
@@ -271,6 +271,14 @@ fn import<'a>(alloc: Global) -> Result<Command<'a>, AllocError> {
         exh_help::import::TEXT,
     )
     .arg(format(alloc))?
+    .arg(flag(alloc, HEADER, "The first record of csv names the columns"))?
+    .arg(option(
+        alloc,
+        KEY,
+        NAME,
+        "The column, or field of jsonl, with the key",
+    ))?
+    .arg(option(alloc, VALUE, NAME, "The column or field with the value"))?
     .arg(hex(alloc))?
     .arg(flag(alloc, ATOMIC, "All pairs at once, or none"))?
     .arg(rejects(alloc))?

@@ -132,6 +132,18 @@ pub(crate) const REJECTS: &str = "rejects";
 /// What help calls that file.
 pub(crate) const FILE: &str = "FILE";
 
+/// The flag of `import` of records behind one that names the columns.
+pub(crate) const HEADER: &str = "header";
+
+/// The option of `import` that names the column or field with the key.
+pub(crate) const KEY: &str = "key";
+
+/// The option of `import` that names that with the value.
+pub(crate) const VALUE: &str = "value";
+
+/// What help calls such a name.
+pub(crate) const NAME: &str = "NAME";
+
 /// The flag of `export` and of `salvage` that leaves the first line and the last out.
 pub(crate) const BARE: &str = "bare";
 

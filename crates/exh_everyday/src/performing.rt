@@ -61,7 +61,7 @@ fn run_action<W: Write>(run: &Run<'_>, action: &Action<'_>, output: &mut Output<
             make_change(run, &swap, output)
         }
         Action::Backup { new } => back_up(run, new),
-        Action::Import { words, rejects } => import(run, words, *rejects, output),
+        Action::Import { words, texts } => import(run, words, texts, output),
         Action::Export { format, is_bare } => export(run, *format, *is_bare, output),
         Action::Compact(given) => compact(run, given, output),
         Action::Stats { is_json } => stats(run, *is_json, output),

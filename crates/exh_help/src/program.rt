@@ -14,9 +14,9 @@ pub const USAGE: &str = "exhash create PATH [--cap N] [--wards N] [--keyer K]
        exhash del PATH --from - [--hex] [--wait SECONDS]
        exhash swap PATH KEY OLD NEW [--hex] [--wait SECONDS]
        exhash backup PATH NEW [--wait SECONDS]
-       exhash import PATH [--format words|tsv|jsonl|csv] [--hex] [--atomic]
-         [--rejects FILE] [--wait SECONDS]
-         [--create [--cap N] [--wards N] [--keyer K]] < PAIRS
+       exhash import PATH [--format words|tsv|jsonl|csv] [--header]
+         [--key NAME] [--value NAME] [--hex] [--atomic] [--rejects FILE]
+         [--wait SECONDS] [--create [--cap N] [--wards N] [--keyer K]] < PAIRS
        exhash export PATH [--format words|tsv|jsonl|csv] [--hex] [--bare]
          [--wait SECONDS]
        exhash compact PATH [--cap N] [--wards N] [--keyer K]

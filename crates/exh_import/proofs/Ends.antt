@@ -1,19 +1,19 @@
 -- Why an import ends before its text's end.
-use Rattle.std.proofs.Common.{◌≡◌, ◌≢◌, ◌⊎◌, ◌≤◌, ◌+◌, ◌-◌, ◌^◌, ℕ, true, false, eqb, List, [], ◌∷◌, ◌++◌, length, min, Option, Some, None, IfSome, IsTrue, Result, Ok, Err, IfErr, inl, inr, refl, sym, ap, ◌∙◌, subst, append_assoc, arith}
+use Rattle.std.proofs.Common.{◌≡◌, ◌≢◌, ◌⊎◌, ◌≤◌, ◌+◌, ◌-◌, ◌^◌, ℕ, Bool, true, false, eqb, List, [], ◌∷◌, ◌++◌, length, min, Option, Some, None, IfSome, IsTrue, Result, Ok, Err, IfErr, inl, inr, refl, sym, ap, ◌∙◌, subst, append_assoc, arith}
 use Rattle.std.specs.Prelude.{IsErrAnd}
 use Rattle.std.specs.Io.KnownBytes.{Consumes, IsAtEnd}
 use Rattle.std.proofs.KnownBytes.{Consumes-trans, Consumes-whole}
 use Rattle.exh_pair_text.specs.Records.{IsOneLine}
 use Rattle.exh_pair_text.specs.declared.pair_format.PairFormat.{PairFormat}
 use Rattle.exh_import.specs.declared.import_fault.ImportFault.{ImportFault}
-use Rattle.exh_import.specs.declared.import_fault.ImportFault.TheVariants.{Endless, LongLine, Memory, OtherFormat, Read, Refused}
+use Rattle.exh_import.specs.declared.import_fault.ImportFault.TheVariants.{Endless, Header, LongLine, Memory, OtherFormat, Read, Refused}
 use Rattle.exh_import.specs.declared.imported_store.Added.{Added}
 use Rattle.exh_import.specs.declared.line_reader.LineReader.{LineReader}
 use Rattle.exh_import.specs.declared.options.ImportOptions.{ImportOptions}
 use Rattle.exh_import.specs.declared.rejection.Rejection.{Rejection}
 use Rattle.exh_import.specs.declared.taking.Taking.{Taking}
 use Rattle.exh_import.specs.Causes.{HasLines, HasLongLine, IsCause, IsLineCause, IsLong, IsNextCause, IsReadCause, IsStoreCause, OpensWith, whole_line, whole_lines}
-use Rattle.exh_import.specs.Counting.{first_opening, more, starts}
+use Rattle.exh_import.specs.Counting.{first_opening, lines_begun, more, starts}
 use Rattle.exh_import.specs.Imports.{Point}
 use Rattle.exh_import.specs.LineReader.{AreTaken, IsLineTaken, text_left}
 use Rattle.exh_import.specs.Pairs.{read_of}
@@ -31,14 +31,17 @@ begins_with None left bytes P taken more = tt
 begins_with (Some text) None bytes P taken more = absurd taken
 begins_with (Some text) (Some rest) bytes P taken more = more rest text taken
 
-none_few : 0 ≤ 2 ^ 64 - 1
-none_few = omega arith
+few_begun : (opened header : Bool) → lines_begun (record { is_opened = opened; has_header = header }) ≤ 2 ^ 64 - 1
+few_begun true true = omega arith
+few_begun true false = omega arith
+few_begun false true = omega arith
+few_begun false false = omega arith
 
-none_before : (count lines : ℕ) → lines ≡ min (0 + count) (2 ^ 64 - 1) → lines ≡ 0 → count ≡ 0
-none_before count lines is none = omega (arith, is, none)
+none_before : (begun count lines : ℕ) → lines ≡ min (begun + count) (2 ^ 64 - 1) → lines ≡ 0 → count ≡ 0
+none_before begun count lines is none = omega (arith, is, none)
 
-next_number : (count lines : ℕ) → lines ≡ min (0 + count) (2 ^ 64 - 1) → more lines ≡ min (count + 1) (2 ^ 64 - 1)
-next_number count lines is = omega (arith, is)
+next_number : (begun count lines : ℕ) → lines ≡ min (begun + count) (2 ^ 64 - 1) → more lines ≡ min (begun + count + 1) (2 ^ 64 - 1)
+next_number begun count lines is = omega (arith, is)
 
 empty_of : (lines : List (List ℕ)) → length lines ≡ 0 → lines ≡ []
 empty_of [] none = refl
@@ -51,6 +54,7 @@ read_cause refused options known lines store Read cause = cause
 read_cause refused options known lines store Refused cause = absurd cause
 read_cause refused options known lines store (LongLine number) cause = absurd cause
 read_cause refused options known lines store (OtherFormat found) cause = absurd cause
+read_cause refused options known lines store (Header wrong) cause = absurd cause
 read_cause refused options known lines store Endless cause = absurd cause
 
 -- so of a line
@@ -60,6 +64,7 @@ line_cause format remaining number old new Read cause = cause
 line_cause format remaining number old new Refused cause = absurd cause
 line_cause format remaining number old new (LongLine told) cause = absurd cause
 line_cause format remaining number old new (OtherFormat found) cause = absurd cause
+line_cause format remaining number old new (Header wrong) cause = absurd cause
 line_cause format remaining number old new Endless cause = absurd cause
 
 pub store_cause : {R S : Type 0} (refused : S → S → Type 0) (options : ImportOptions) (known : Option (List ℕ)) (lines : LineReader R) (store : S) (fault : ImportFault) → IsStoreCause refused store fault → IsCause refused options known lines store fault
@@ -68,6 +73,7 @@ store_cause refused options known lines store Read cause = absurd cause
 store_cause refused options known lines store Refused cause = cause
 store_cause refused options known lines store (LongLine number) cause = absurd cause
 store_cause refused options known lines store (OtherFormat found) cause = absurd cause
+store_cause refused options known lines store (Header wrong) cause = absurd cause
 store_cause refused options known lines store Endless cause = absurd cause
 
 module _ {S L : Type 0} (gives : S → List ℕ → List ℕ → Added → S → Type 0) (saves rests refused : S → S → Type 0) (told : L → ℕ → Rejection → List ℕ → L → Type 0) where
@@ -79,16 +85,16 @@ module _ {S L : Type 0} (gives : S → List ℕ → List ℕ → Added → S →
     Amid lines now = IsAmid gives saves rests told options.format remaining known start lines now
 
     counts : (lines : LineReader R) (now : Point S L) (amid : Amid lines now) → Counts gives saves rests told (starts options) now.taking (length amid.front)
-    counts lines now amid = lines_count gives saves rests told amid.front start now none_few amid.takes
+    counts lines now amid = lines_count gives saves rests told amid.front start now (few_begun options.begun.is_opened options.begun.has_header) amid.takes
 
     -- a line that is too long
-    long_line : (old new : LineReader R) (now : Point S L) (number : ℕ) (long : List ℕ) → Amid old now → number ≡ more now.taking.imported.lines → IsLong options.format long → AreTaken remaining old new long → IfSome known (HasLongLine options.format number)
+    long_line : (old new : LineReader R) (now : Point S L) (number : ℕ) (long : List ℕ) → Amid old now → number ≡ more now.taking.imported.lines → IsLong options.format long → AreTaken remaining old new long → IfSome known (HasLongLine options.format (lines_begun options.begun) number)
     long_line old new now number long amid is is_long given =
-        begins_with known (text_left remaining new) (whole_lines amid.front ++ long) (HasLongLine options.format number)
+        begins_with known (text_left remaining new) (whole_lines amid.front ++ long) (HasLongLine options.format (lines_begun options.begun) number)
         (Consumes-trans known (text_left remaining old) (text_left remaining new) (whole_lines amid.front) long amid.given given) (λ rest text text_is. record {
           front = amid.front;
           lines = amid.one;
-          number_is = is ∙ next_number (length amid.front) now.taking.imported.lines (counts old now amid).lines;
+          number_is = is ∙ next_number (lines_begun options.begun) (length amid.front) now.taking.imported.lines (counts old now amid).lines;
           long = long;
           rest = rest;
           is_long = is_long;
@@ -100,7 +106,7 @@ module _ {S L : Type 0} (gives : S → List ℕ → List ℕ → Added → S →
         → now.taking.imported.lines ≡ 0 → first_opening true (read_of now.taking.options line) ≡ Some found → IfSome known (OpensWith options found)
     opens old new now found line amid one given none opening =
         let count = counts old now amid in
-        let front : amid.front ≡ [] = empty_of amid.front (none_before (length amid.front) now.taking.imported.lines count.lines none) in
+        let front : amid.front ≡ [] = empty_of amid.front (none_before (lines_begun options.begun) (length amid.front) now.taking.imported.lines count.lines none) in
         let before = subst (λ (lines : List (List ℕ)). Consumes known (text_left remaining old) (whole_lines lines)) front amid.given in
         let is = subst (λ (o : ImportOptions). first_opening true (read_of o line) ≡ Some found) count.options opening in
         elim given [
@@ -127,6 +133,8 @@ module _ {S L : Type 0} (gives : S → List ℕ → List ℕ → Added → S →
           λ same. taken.cause.0 (same ∙ ap (λ (o : ImportOptions). o.format) (sym count.options)),
           opens old new now found taken.line amid taken.one taken.given taken.cause.1.0 taken.cause.1.1,
         )
+    next_cause old new now store' (Header wrong) amid (inl none) = absurd none
+    next_cause old new now store' (Header wrong) amid (inr taken) = absurd taken.cause
     next_cause old new now store' Endless amid (inl none) = absurd none
     next_cause old new now store' Endless amid (inr taken) = absurd taken.cause
 

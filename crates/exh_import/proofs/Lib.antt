@@ -2,3 +2,6 @@
 pub mod Texts
 pub mod Puts
 pub mod Ends
+-- of what stands before the pairs
+pub mod Marks
+pub mod Heads

@@ -12,9 +12,9 @@ use Rattle.exh_import.specs.declared.imported_store.Added.TheVariants.{Put, Full
 use Rattle.exh_import.specs.declared.options.ImportOptions.{ImportOptions}
 use Rattle.exh_import.specs.declared.rejection.Rejection.{Rejection}
 use Rattle.exh_import.specs.declared.taking.Taking.{Taking}
-use Rattle.exh_import.specs.Counting.{first_opening, full_counted, is_due, line_counted, more, pair_counted, rejected_counted, rested, starts}
+use Rattle.exh_import.specs.Counting.{first_opening, full_counted, is_due, line_counted, lines_begun, more, pair_counted, rejected_counted, rested, starts}
 use Rattle.exh_import.specs.Imports.{Answered, FinishesWhere, Imports, Point, RestsWhere, SavesWhere, TakesAmid, TakesLine, TakesLines, TakesRead, TakesText}
-use Rattle.exh_import.specs.Pairs.{ArePut, AreSaved, all_but_last, pair_of, pairs_of, pairs_put, read_of}
+use Rattle.exh_import.specs.Pairs.{ArePut, AreSaved, all_but_last, pair_of, pairs_of, pairs_of_text, pairs_of_whole, pairs_put, read_of}
 
 module _ {S L : Type 0} (gives : S → List ℕ → List ℕ → Added → S → Type 0) (saves rests : S → S → Type 0) (told : L → ℕ → Rejection → List ℕ → L → Type 0) where
   saved_then : (count more : ℕ) (old mid new : S) → AreSaved gives saves rests count old mid → AreSaved gives saves rests more mid new → (all : ℕ) × AreSaved gives saves rests all old new
@@ -220,12 +220,33 @@ module _ {S L : Type 0} (gives : S → List ℕ → List ℕ → Added → S →
         },
       )
 
+  ends_of : (options : ImportOptions) (e : Bool) (front : List (List ℕ)) (last : List ℕ) → pairs_of options front ++ cond e [] (pair_of (read_of options last)) ≡ pairs_of_text options e (front ++ last ∷ [])
+  ends_of options true front last = append-nil (pairs_of options front) ∙ ap (pairs_of options) (sym (all_but front last))
+  ends_of options false front last =
+      ap (λ (end : List (List ℕ × List ℕ)). pairs_of options front ++ end) (sym (append-nil (pair_of (read_of options last)))) ∙ sym (flat_map-append (λ line. pair_of (read_of options line)) front (last ∷ []))
+
+  none_of : (options : ImportOptions) (e : Bool) → [] ≡ pairs_of_text options e []
+  none_of options true = refl
+  none_of options false = refl
+
   module _ (options : ImportOptions) (store : S) (listener : L) where
-    abbrev start : Point S L
-    start = record { taking = starts options; store = store; listener = listener }
+    -- an import that was begun so
+    abbrev begins : Bool → Bool → Taking
+    begins opened header = record {
+      options = options;
+      imported = record { lines = lines_begun (record { is_opened = opened; has_header = header }); pairs = 0; rejected = 0; full = 0; is_cut_off = opened; is_committed = false };
+      is_opened = opened;
+      unsaved = 0;
+      is_saved = false;
+    }
+
+    abbrev start : Bool → Bool → Point S L
+    start opened header = record { taking = begins opened header; store = store; listener = listener }
+
+    -- ---- with the first line
 
     abbrev counted : Point S L
-    counted = record { taking = line_counted (starts options); store = store; listener = listener }
+    counted = record { taking = line_counted (begins false false); store = store; listener = listener }
 
     counted_behind : IsBehind options false counted.taking
     counted_behind = record { options_are = refl; some = more_some 0; opened_is = refl }
@@ -234,7 +255,8 @@ module _ {S L : Type 0} (gives : S → List ℕ → List ℕ → Added → S →
     one_part true last = refl
     one_part false last = sym (append-nil (pair_of (read_of options last)))
 
-    put_parts : (front : List (List ℕ)) (last : List ℕ) (mid next : Point S L) → TakesLines gives saves rests told front start mid → TakesLine gives saves rests told true last mid next → ArePut gives saves rests (pairs_put options (front ++ last ∷ [])) store next.store
+    put_parts : (front : List (List ℕ)) (last : List ℕ) (mid next : Point S L) → TakesLines gives saves rests told front (start false false) mid → TakesLine gives saves rests told true last mid next
+        → ArePut gives saves rests (pairs_of_whole options (front ++ last ∷ [])) store next.store
     put_parts [] last mid next same takes =
         let taken = subst (λ (p : Point S L). TakesLine gives saves rests told true last p next) same takes in
         let o = first_opening true (read_of options last) in
@@ -249,9 +271,29 @@ module _ {S L : Type 0} (gives : S → List ℕ → List ℕ → Added → S →
         (put_then (cond (is_some o) [] (pair_of (read_of options first))) (pairs_of options rest ++ cond (is_some o) [] (pair_of (read_of options last))) store one.store next.store begun.0
         (put_then (pairs_of options rest) (cond (is_some o) [] (pair_of (read_of options last))) one.store mid.store next.store amid_text.0 ended))
 
-    put_text : (lines : List (List ℕ)) (next : Point S L) → TakesText gives saves rests told lines start next → ArePut gives saves rests (pairs_put options lines) store next.store
-    put_text lines next (inl (none, same)) = subst (λ (ls : List (List ℕ)). ArePut gives saves rests (pairs_put options ls) store next.store) (sym none) (0, ap (λ (p : Point S L). p.store) same)
-    put_text lines next (inr (front, (last, (mid, (is, (takes, end)))))) = subst (λ (ls : List (List ℕ)). ArePut gives saves rests (pairs_put options ls) store next.store) (sym is) (put_parts front last mid next takes end)
+    put_whole : (lines : List (List ℕ)) (next : Point S L) → TakesText gives saves rests told lines (start false false) next → ArePut gives saves rests (pairs_of_whole options lines) store next.store
+    put_whole lines next (inl (none, same)) = subst (λ (ls : List (List ℕ)). ArePut gives saves rests (pairs_of_whole options ls) store next.store) (sym none) (0, ap (λ (p : Point S L). p.store) same)
+    put_whole lines next (inr (front, (last, (mid, (is, (takes, end)))))) = subst (λ (ls : List (List ℕ)). ArePut gives saves rests (pairs_of_whole options ls) store next.store) (sym is) (put_parts front last mid next takes end)
+
+    -- ---- behind a heading
+
+    put_behind : (e : Bool) (lines : List (List ℕ)) (old next : Point S L) → IsBehind options e old.taking → TakesText gives saves rests told lines old next → ArePut gives saves rests (pairs_of_text options e lines) old.store next.store
+    put_behind e lines old next behind (inl (none, same)) =
+        subst (λ (pairs : List (List ℕ × List ℕ)). ArePut gives saves rests pairs old.store next.store) (none_of options e ∙ ap (pairs_of_text options e) (sym none)) (0, ap (λ (p : Point S L). p.store) same)
+    put_behind e lines old next behind (inr (front, (last, (mid, (is, (takes, end)))))) =
+        let amid_text = several options e front old mid behind takes in
+        let ended = last_line options e last mid next amid_text.1 end in
+        subst (λ (pairs : List (List ℕ × List ℕ)). ArePut gives saves rests pairs old.store next.store) (ends_of options e front last ∙ ap (pairs_of_text options e) (sym is))
+        (put_then (pairs_of options front) (cond e [] (pair_of (read_of options last))) old.store mid.store next.store amid_text.0 ended)
+
+    -- ---- all lines
+
+    put_text : (opened header : Bool) (lines : List (List ℕ)) (next : Point S L) → TakesText gives saves rests told lines (start opened header) next
+        → ArePut gives saves rests (cond (eqb (lines_begun (record { is_opened = opened; has_header = header })) 0) (pairs_of_whole options lines) (pairs_of_text options opened lines)) store next.store
+    put_text false false lines next takes = put_whole lines next takes
+    put_text false true lines next takes = put_behind false lines (start false true) next (record { options_are = refl; some = λ none. omega (arith, none); opened_is = refl }) takes
+    put_text true false lines next takes = put_behind true lines (start true false) next (record { options_are = refl; some = λ none. omega (arith, none); opened_is = refl }) takes
+    put_text true true lines next takes = put_behind true lines (start true true) next (record { options_are = refl; some = λ none. omega (arith, none); opened_is = refl }) takes
 
     finished : (b : Bool) (taking : Taking) (old new : S) (imported : Imported) → FinishesWhere saves b taking old imported new → ArePut gives saves rests [] old new
     finished true taking old new imported (is, same) = (0, same)
@@ -260,4 +302,5 @@ module _ {S L : Type 0} (gives : S → List ℕ → List ℕ → Added → S →
     pub imports_put : (lines : List (List ℕ)) (imported : Imported) (store' : S) (listener' : L) → Imports gives saves rests told options lines store listener imported store' listener' → ArePut gives saves rests (pairs_put options lines) store store'
     imports_put lines imported store' listener' imports =
         subst (λ (pairs : List (List ℕ × List ℕ)). ArePut gives saves rests pairs store store') (append-nil (pairs_put options lines))
-        (put_then (pairs_put options lines) [] store imports.next.store store' (put_text lines imports.next imports.takes) (finished _ imports.next.taking imports.next.store store' imported imports.finishes))
+        (put_then (pairs_put options lines) [] store imports.next.store store' (put_text options.begun.is_opened options.begun.has_header lines imports.next imports.takes)
+        (finished _ imports.next.taking imports.next.store store' imported imports.finishes))

@@ -7,12 +7,12 @@ use Rattle.exh_text.specs.TextLines.{newline}
 use Rattle.exh_pair_text.specs.Records.{IsEnded, IsOneLine}
 use Rattle.exh_pair_text.specs.declared.pair_format.PairFormat.{PairFormat}
 use Rattle.exh_import.specs.declared.import_fault.ImportFault.{ImportFault}
-use Rattle.exh_import.specs.declared.import_fault.ImportFault.TheVariants.{Endless, LongLine, Memory, OtherFormat, Read, Refused}
+use Rattle.exh_import.specs.declared.import_fault.ImportFault.TheVariants.{Endless, Header, LongLine, Memory, OtherFormat, Read, Refused}
 use Rattle.exh_import.specs.declared.line_reader.LineReader.{LineReader}
 use Rattle.exh_import.specs.declared.line_reader.TheConstants.{LINE_LIMIT}
 use Rattle.exh_import.specs.declared.options.ImportOptions.{ImportOptions}
 use Rattle.exh_import.specs.declared.taking.Taking.{Taking}
-use Rattle.exh_import.specs.Counting.{first_opening, more}
+use Rattle.exh_import.specs.Counting.{first_opening, lines_begun, more}
 use Rattle.exh_import.specs.LineReader.{AreTaken, IsLineTaken, text_left}
 use Rattle.exh_import.specs.Pairs.{read_of}
 
@@ -35,11 +35,11 @@ pub record IsLong (format : PairFormat) (bytes : List ℕ) : Type 0 where
   pub one : IsOneLine format bytes
   pub more_bytes : LINE_LIMIT < length bytes
 
--- the line of this number, at most 2^64 - 1, is too long
-pub record HasLongLine (format : PairFormat) (number : ℕ) (text : List ℕ) : Type 0 where
+-- the line of this number, at most 2^64 - 1, is too long, where so many were taken before
+pub record HasLongLine (format : PairFormat) (begun number : ℕ) (text : List ℕ) : Type 0 where
   pub front : List (List ℕ)
   pub lines : AreWholeLines format front
-  pub number_is : number ≡ min (length front + 1) (2 ^ 64 - 1)
+  pub number_is : number ≡ min (begun + length front + 1) (2 ^ 64 - 1)
   pub long : List ℕ
   pub rest : List ℕ
   pub is_long : IsLong format long
@@ -74,8 +74,9 @@ abbrev pub IsCause : {R S : Type 0} → (S → S → Type 0) → ImportOptions �
 IsCause refused options known lines store Memory = ⊤
 IsCause refused options known lines store Read = IsTrue (reader_failed lines.source)
 IsCause refused options known lines store Refused = IsRefused refused store
-IsCause refused options known lines store (LongLine number) = IfSome known (HasLongLine options.format number)
+IsCause refused options known lines store (LongLine number) = IfSome known (HasLongLine options.format (lines_begun options.begun) number)
 IsCause refused options known lines store (OtherFormat found) = (found ≢ options.format) × IfSome known (OpensWith options found)
+IsCause refused options known lines store (Header wrong) = ⊥
 IsCause refused options known lines store Endless = IfSome known (HasLines options.format (2 ^ 64 - 1))
 
 -- ---- of private functions

@@ -1,8 +1,9 @@
 -- The numbers of an import, as lines go by.
-use Rattle.std.specs.Prelude.{ℕ, ◌+◌, ◌-◌, ◌^◌, ◌==◌, min, nat_le, Bool, true, false, not, ◌&&◌, ◌||◌, Option, Some, None}
+use Rattle.std.specs.Prelude.{ℕ, ◌+◌, ◌-◌, ◌^◌, ◌==◌, min, nat_le, Bool, true, false, not, ◌&&◌, ◌||◌, if◌then◌else◌, Option, Some, None}
 use Rattle.exh_pair_text.specs.declared.line.Line.{Line}
 use Rattle.exh_pair_text.specs.declared.line.Line.TheVariants.{Opening, End}
 use Rattle.exh_pair_text.specs.declared.pair_format.PairFormat.{PairFormat}
+use Rattle.exh_import.specs.declared.begun.Begun.{Begun}
 use Rattle.exh_import.specs.declared.imported.Imported.{Imported}
 use Rattle.exh_import.specs.declared.options.ImportOptions.{ImportOptions}
 use Rattle.exh_import.specs.declared.taking.Taking.{Taking}
@@ -11,9 +12,19 @@ use Rattle.exh_import.specs.declared.taking.Taking.{Taking}
 abbrev pub more : ℕ → ℕ
 more count = min (count + 1) (2 ^ 64 - 1)
 
--- of a text of which no line is taken
+-- as many lines were taken before the pairs are
+abbrev pub lines_begun : Begun → ℕ
+lines_begun begun = (if begun.is_opened then 1 else 0) + (if begun.has_header then 1 else 0)
+
+-- of a text of which no line is taken but those: it is cut off where it has an opening and ends there
 abbrev pub starts : ImportOptions → Taking
-starts options = record { options = options; imported = record { lines = 0; pairs = 0; rejected = 0; full = 0; is_cut_off = false; is_committed = false }; is_opened = false; unsaved = 0; is_saved = false }
+starts options = record {
+  options = options;
+  imported = record { lines = lines_begun options.begun; pairs = 0; rejected = 0; full = 0; is_cut_off = options.begun.is_opened; is_committed = false };
+  is_opened = options.begun.is_opened;
+  unsaved = 0;
+  is_saved = false;
+}
 
 abbrev pub line_counted : Taking → Taking
 line_counted taking = record taking { imported = record taking.imported { lines = more taking.imported.lines } }
@@ -35,9 +46,9 @@ saved taking = record taking { unsaved = 0; is_saved = true }
 abbrev pub rested : Taking → Taking
 rested taking = record taking { is_saved = false }
 
--- as many pairs are put as one batch has
+-- as many pairs are put as a batch has, and as were committed before
 abbrev pub is_due : Taking → Bool
-is_due taking = not taking.options.is_atomic && nat_le taking.options.batch taking.unsaved
+is_due taking = not taking.options.is_atomic && (nat_le taking.options.batch taking.unsaved && nat_le (taking.imported.pairs - taking.unsaved) taking.unsaved)
 
 -- ---- exports
 

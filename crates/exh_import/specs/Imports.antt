@@ -4,6 +4,7 @@ use Rattle.exh_text.specs.TextLines.{newline}
 use Rattle.exh_pair_text.specs.declared.line.Line.{Line}
 use Rattle.exh_pair_text.specs.declared.line.Line.TheVariants.{Pair, Empty, Wrong as WrongLine}
 use Rattle.exh_pair_text.specs.declared.pair_format.PairFormat.{PairFormat}
+use Rattle.exh_pair_text.specs.Parts.{parts_of}
 use Rattle.exh_pair_text.specs.Reading.{line_read}
 use Rattle.exh_pair_text.specs.Records.{IsEnded, IsOneLine}
 use Rattle.exh_import.specs.declared.imported.Imported.{Imported}
@@ -97,7 +98,7 @@ module _ {S L : Type 0} (gives : S → List ℕ → List ℕ → Added → S →
   -- the next line, which is the last or isn't
   abbrev pub TakesLine : Bool → List ℕ → Point S L → Point S L → Type 0
   TakesLine last line old new =
-      let read = line_read old.taking.options.format old.taking.options.is_hex line in
+      let read = line_read old.taking.options.format old.taking.options.is_hex (parts_of old.taking.options.layout) line in
       TakesRead (first_opening (old.taking.imported.lines == 0) read) (old.taking.is_opened && last) last read line (record old { taking = line_counted old.taking }) new
 
   -- lines of which none is the last

@@ -4,3 +4,4 @@ pub mod Counting
 pub mod Imports
 pub mod Pairs
 pub mod Causes
+pub mod Header

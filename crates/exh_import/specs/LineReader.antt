@@ -1,5 +1,6 @@
 -- The lines of a text that comes from a reader: contracts of private functions.
-use Rattle.std.specs.Prelude.{◌≡◌, ◌≢◌, ◌⊎◌, ℕ, List, [], ◌∷◌, ◌++◌, drop, Option, IsTrue}
+use Rattle.std.specs.Prelude.{◌≡◌, ◌≢◌, ◌⊎◌, ℕ, List, [], ◌∷◌, ◌++◌, drop, nat_eq, Option, option_map, IsTrue, if◌then◌else◌}
+use Rattle.std.specs.List.{starts_with}
 use Rattle.std.specs.Io.KnownBytes.{Consumes, IsAtEnd, prepend_known}
 use Rattle.exh_stream.specs.Source.{unread}
 use Rattle.exh_text.specs.TextLines.{newline}
@@ -27,6 +28,24 @@ pub record IsOver {R : Type 0} (lines : LineReader R) : Type 0 where
 -- these bytes of the text were taken
 abbrev pub AreTaken : {R : Type 0} → (R → Option (List ℕ)) → LineReader R → LineReader R → List ℕ → Type 0
 AreTaken remaining old new given = Consumes (text_left remaining old) (text_left remaining new) given
+
+-- ---- the byte order mark of UTF-8
+
+abbrev pub mark : List ℕ
+mark = 239 ∷ 187 ∷ 191 ∷ []
+
+-- how many bytes of a text are one with which it begins
+abbrev pub mark_len : List ℕ → ℕ
+mark_len text = if starts_with nat_eq text mark then 3 else 0
+
+abbrev pub without_mark : List ℕ → List ℕ
+without_mark text = drop (mark_len text) text
+
+-- of a text, where it is known, what stands behind one
+abbrev pub unmarked : Option (List ℕ) → Option (List ℕ)
+unmarked known = option_map without_mark known
+
+-- ---- lines
 
 -- a line was taken, and the newline that ends it
 abbrev pub IsLineTaken : {R : Type 0} → PairFormat → (R → Option (List ℕ)) → LineReader R → LineReader R → List ℕ → Type 0

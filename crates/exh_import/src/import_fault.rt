@@ -2,7 +2,7 @@ ghost use Rattle.std.specs.Prelude.{◌≡◌};
 ghost use Rattle.exh_import.specs.declared.import_fault.ImportFault.TheVariants.{Memory, Read, Refused as StoreRefused};
 
 use crate::Refused;
-use exh_pair_text::PairFormat;
+use exh_pair_text::{PairFormat, WrongHeader};
 use exh_stream::ReadFault;
 use std::alloc::AllocError;
 use thiserror::Error;
@@ -22,6 +22,9 @@ pub enum ImportFault {
     /// The text's opening names another format.
     #[error("the text is an export of the format {}", .found.name())]
     OtherFormat { found: PairFormat },
+    /// The text's header gives no columns.
+    #[error("{0}")]
+    Header(WrongHeader),
     /// The text goes on behind 2^64 - 1 lines.
     #[error("it has more lines than can be counted")]
     Endless,

@@ -13,8 +13,8 @@ use exh_pair_text::PairFormat;
 use std::alloc::Global;
 use std::io::Read;
 
-/// Imports a text of pairs: puts the pair of each line into a store, in order, and hands each line that isn't put to the
-/// listener.
+/// Imports a text of pairs, or what is left of it behind its heading: puts the pair of each line into a store, in order, and
+/// hands each line that isn't put to the listener.
 ///
 /// Pairs are committed in batches and at the end, and the store rests before the first put behind a batch's commit; or they
 /// are committed at the end alone where `is_atomic` is asked for, and not at all then where a line was rejected, a key had no
@@ -28,20 +28,20 @@ pub fn import<R: Read, S: ImportedStore, L: Rejects>(
     alloc: Global,
     lines: &mut LineReader<'_, R>,
     store: &mut S,
-    options: ImportOptions,
+    options: &ImportOptions<'_>,
     listener: &mut L,
 ) -> Result<Imported, ImportFault>
     requires ends { EndsRight R.remaining lines.old }
     ensures same_reader { SameReader lines.old.source lines.new.source }
-    ensures imports { IfOk result (λ imported. (texts : List (List ℕ)) × (IfSome (text_left R.remaining lines.old) (IsTextOf options.format texts)
-        × Imports S.gives S.saves S.rests L.told options texts store.old listener.old imported store.new listener.new)) }
+    ensures imports { IfOk result (λ imported. (texts : List (List ℕ)) × (IfSome (text_left R.remaining lines.old) (IsTextOf options.now.format texts)
+        × Imports S.gives S.saves S.rests L.told options.now texts store.old listener.old imported store.new listener.new)) }
 
     // The pairs of the text's lines are put in order, with commits and rests between.
-    ensures pairs { IfOk result (λ imported. (texts : List (List ℕ)) × (IfSome (text_left R.remaining lines.old) (IsTextOf options.format texts)
-        × ArePut S.gives S.saves S.rests (pairs_put options texts) store.old store.new)) }
+    ensures pairs { IfOk result (λ imported. (texts : List (List ℕ)) × (IfSome (text_left R.remaining lines.old) (IsTextOf options.now.format texts)
+        × ArePut S.gives S.saves S.rests (pairs_put options.now texts) store.old store.new)) }
 
     // Each error but `Memory` only where its cause is there.
-    ensures cause { IfErr result (IsCause S.refused options (text_left R.remaining lines.old) lines.new store.new) }
+    ensures cause { IfErr result (IsCause S.refused options.now (text_left R.remaining lines.old) lines.new store.new) }
 {
     let mut taking = Taking::new(options);
     let mut is_over = lines.is_over()?;
@@ -63,7 +63,7 @@ fn take_next<R: Read, S: ImportedStore, L: Rejects>(
     alloc: Global,
     format: PairFormat,
     lines: &mut LineReader<'_, R>,
-    taking: &mut Taking,
+    taking: &mut Taking<'_>,
     store: &mut S,
     listener: &mut L,
 ) -> Result<bool, ImportFault>

@@ -1,6 +1,8 @@
 //! Import of a text of pairs into a store, line by line.
 #![tactic(auto)]
 
+pub use begun::Begun;
+pub use heading::{Heading, take_heading};
 pub use import_fault::ImportFault;
 pub use imported::Imported;
 pub use imported_store::{Added, ImportedStore, Refused};
@@ -9,6 +11,8 @@ pub use line_reader::LineReader;
 pub use options::ImportOptions;
 pub use rejection::{Rejection, Rejects};
 
+mod begun;
+mod heading;
 mod import_fault;
 mod imported;
 mod imported_store;

@@ -1,11 +1,11 @@
 //! The lines of a text that comes from a reader, one at a time. Which newline ends a line, its format says.
-ghost use Rattle.std.specs.Prelude.{◌≡◌, ◌≢◌, ◌⊎◌, [], ◌∷◌, ◌++◌, option_to_list, IfErr, IfNone, IfOk, IsFalse, IsTrue, OnOk};
+ghost use Rattle.std.specs.Prelude.{◌≡◌, ◌≢◌, ◌⊎◌, [], ◌∷◌, ◌++◌, length, option_to_list, IfErr, IfNone, IfOk, IsFalse, IsTrue, OnOk};
 ghost use Rattle.std.specs.Io.KnownBytes.{Keeps};
 ghost use Rattle.exh_stream.specs.Source.{ReadsFrom, SameReader};
 ghost use Rattle.exh_csv.specs.declared.place.Place.TheVariants.{Quoted};
 ghost use Rattle.exh_text.specs.TextLines.{newline};
 ghost use Rattle.exh_import.specs.Causes.{IsLineCause, IsReadCause};
-ghost use Rattle.exh_import.specs.LineReader.{AreTaken, EndsRight, IsOver, TakesNext, text_left, waiting};
+ghost use Rattle.exh_import.specs.LineReader.{AreTaken, EndsRight, IsOver, TakesNext, mark_len, text_left, unmarked, waiting};
 
 use crate::ImportFault;
 use exh_csv::Place;
@@ -16,6 +16,9 @@ use std::io::Read;
 
 /// The most bytes of a line.
 pub const LINE_LIMIT: usize = 65_536;
+
+// The byte order mark of UTF-8.
+const MARK: &[u8] = b"\xef\xbb\xbf";
 
 /// The lines of a reader, each up to the newline that ends it; the last may lack it. Of what the reader gives, a block and a line are
 /// kept.
@@ -36,6 +39,7 @@ impl<'r, R: Read> LineReader<'r, R> {
         ensures reads_from { ReadsFrom result.source reader.entry }
         ensures text { text_left R.remaining result ≡ R.remaining reader.entry.now }
         ensures ends { EndsRight R.remaining result }
+        ensures fresh { waiting result ≡ [] }
     {
         LineReader {
             source: Source::new(reader),
@@ -44,6 +48,21 @@ impl<'r, R: Read> LineReader<'r, R> {
             ended: false,
             line: Vec::new(alloc),
         }
+    }
+
+    /// Passes over a byte order mark of UTF-8, where the text begins with one. Of the text nothing is taken yet.
+    ///
+    /// `Read`: the reader failed, now or before. `Memory`: a growth was refused.
+    pub fn pass_mark(&mut self) -> Result<(), ImportFault>
+        requires fresh { waiting self.old ≡ [] }
+        ensures same_reader { SameReader self.old.source self.new.source }
+        ensures ends { OnOk result (EndsRight R.remaining self.new) }
+        ensures text { OnOk result (Keeps (unmarked (text_left R.remaining self.old)) (text_left R.remaining self.new)) }
+        ensures cause { IfErr result (IsReadCause self.new) }
+    {
+        self.refill()?;
+        self.at = mark_len(&self.block);
+        Ok(())
     }
 
     // The line that was taken last, without its newline.
@@ -130,6 +149,8 @@ impl<'r, R: Read> LineReader<'r, R> {
         ensures ends { OnOk result (EndsRight R.remaining self.new) }
         ensures text { OnOk result (Keeps (text_left R.remaining self.old) (text_left R.remaining self.new)) }
         ensures some { OnOk result (IsTrue self.new.ended ⊎ (waiting self.new ≢ [])) }
+        ensures start { OnOk result (self.new.at ≡ 0) }
+        ensures full { OnOk result (IsFalse self.new.ended → length self.new.block.items ≡ BLOCK) }
         ensures line { self.new.line ≡ self.old.line }
         ensures cause { IfErr result (IsReadCause self.new) }
     {
@@ -140,6 +161,17 @@ impl<'r, R: Read> LineReader<'r, R> {
         self.ended = count < BLOCK;
         self.block.extend_from_slice(&bytes[..count])?;
         Ok(())
+    }
+}
+
+// How many bytes of a block are a byte order mark with which it begins.
+fn mark_len(block: &[u8]) -> usize
+    ensures { result ≡ mark_len block.now }
+{
+    if block.starts_with(MARK) {
+        MARK.len()
+    } else {
+        0
     }
 }
 

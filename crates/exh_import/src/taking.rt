@@ -12,8 +12,8 @@ use std::alloc::Global;
 
 // How far an import is.
 #[derive(Clone, Copy)]
-pub(crate) struct Taking {
-    options: ImportOptions,
+pub(crate) struct Taking<'n> {
+    options: ImportOptions<'n>,
     pub(crate) imported: Imported,
     // The text begins with an opening.
     is_opened: bool,
@@ -23,22 +23,22 @@ pub(crate) struct Taking {
     is_saved: bool,
 }
 
-impl Taking {
-    // Of a text of which no line is taken.
-    pub(crate) fn new(options: ImportOptions) -> Taking
-        ensures { result ≡ starts options }
+impl<'n> Taking<'n> {
+    // Of a text of which no line is taken, but those with which it was begun.
+    pub(crate) fn new(options: &ImportOptions<'n>) -> Taking<'n>
+        ensures { result ≡ starts options.now }
     {
         Taking {
-            options,
+            options: *options,
             imported: Imported {
-                lines: 0,
+                lines: options.begun.lines(),
                 pairs: 0,
                 rejected: 0,
                 full: 0,
-                is_cut_off: false,
+                is_cut_off: options.begun.is_opened,
                 is_committed: false,
             },
-            is_opened: false,
+            is_opened: options.begun.is_opened,
             unsaved: 0,
             is_saved: false,
         }
@@ -59,7 +59,13 @@ impl Taking {
             (record { taking = self.new; store = store.new; listener = listener.new })) }
     {
         let is_first = self.imported.lines == 0;
-        let read = line_of(alloc, self.options.format, self.options.is_hex, line)?;
+        let read = line_of(
+            alloc,
+            self.options.format,
+            self.options.is_hex,
+            &self.options.layout,
+            line,
+        )?;
         self.imported.lines = self.imported.lines.saturating_add(1);
         match first_opening(is_first, &read) {
             Some(found) => self.open(found, is_last),
@@ -162,12 +168,14 @@ impl Taking {
         Ok(())
     }
 
-    // Commits where as many pairs are put as one batch has.
+    // Commits where as many pairs are put as a batch has, and as were committed before: so all commits together cost a few
+    // times the last.
     fn save_batch<S: ImportedStore>(&mut self, store: &mut S) -> Result<(), ImportFault>
         ensures cause { IfErr result (IsStoreCause S.refused store.new) }
         ensures saved { OnOk result (SavesBatch S.saves self.old store.old self.new store.new) }
     {
-        if self.options.is_atomic || self.unsaved < self.options.batch {
+        let before = self.imported.pairs.saturating_sub(self.unsaved);
+        if self.options.is_atomic || self.unsaved < self.options.batch || self.unsaved < before {
             return Ok(());
         }
         self.save(store)
@@ -218,7 +226,7 @@ impl Taking {
 }
 
 // The format that a text's first line opens with.
-fn first_opening(is_first: bool, read: &Line) -> Option<PairFormat>
+pub(crate) fn first_opening(is_first: bool, read: &Line) -> Option<PairFormat>
     ensures { result ≡ first_opening is_first read.now }
 {
     match read {

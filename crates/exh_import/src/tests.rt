@@ -1,11 +1,11 @@
 //! Imports into a store of a list, from a reader of a few bytes at a time.
 use crate::{
-    Added, ImportFault, ImportOptions, Imported, ImportedStore, LineReader, Refused, Rejection,
-    Rejects, import,
+    Added, Begun, Heading, ImportFault, ImportOptions, Imported, ImportedStore, LineReader,
+    Refused, Rejection, Rejects, import, take_heading,
 };
 use exh_csv::WrongRecord;
 use exh_page::{Key, Value};
-use exh_pair_text::{PairFormat, WrongLine};
+use exh_pair_text::{Columns, Field, FieldNames, Layout, PairFormat, WrongHeader, WrongLine};
 use std::alloc::Global;
 use std::io;
 use std::io::{ErrorKind, Read};
@@ -118,26 +118,24 @@ impl Rejects for Told {
     }
 }
 
-const WORDS: ImportOptions = ImportOptions {
-    format: PairFormat::Words,
-    is_hex: false,
-    is_atomic: false,
-    batch: 2,
-};
-
-const ATOMIC: ImportOptions = ImportOptions {
-    format: PairFormat::Words,
-    is_hex: false,
-    is_atomic: true,
-    batch: 2,
-};
+// Words, two pairs from one commit to the next, or all at once.
+fn words(is_atomic: bool) -> ImportOptions<'static> {
+    ImportOptions {
+        format: PairFormat::Words,
+        is_hex: false,
+        layout: Layout::usual(),
+        begun: Begun::NOTHING,
+        is_atomic,
+        batch: 2,
+    }
+}
 
 // Imports a text, in pieces of so many bytes.
 fn imported(
     alloc: Global,
     text: &[u8],
     most: usize,
-    options: ImportOptions,
+    options: &ImportOptions<'_>,
     store: &mut FakeStore,
     told: &mut Told,
 ) -> Result<Imported, ImportFault> {
@@ -244,7 +242,7 @@ fn texts_are_imported(rt: HostRuntime) -> Result<(), Fail> {
                 is_cut_off,
                 is_committed: true,
             };
-            let found = imported(rt.alloc(), text, most, WORDS, &mut store, &mut told).ok();
+            let found = imported(rt.alloc(), text, most, &words(false), &mut store, &mut told).ok();
             assert!(rt; found == Some(want), "at {lines}");
             assert!(rt; store.pairs.len() as u64 == pairs);
             assert!(rt; told.lines.len() as u64 == rejected + full);
@@ -270,7 +268,7 @@ fn all_or_none_is_committed(rt: HostRuntime) -> Result<(), Fail> {
             is_cut_off,
             is_committed,
         };
-        let found = imported(rt.alloc(), text, 9, ATOMIC, &mut store, &mut told).ok();
+        let found = imported(rt.alloc(), text, 9, &words(true), &mut store, &mut told).ok();
         assert!(rt; found == Some(want), "at {lines}");
         assert!(rt; store.commits.len() == if is_committed { 1 } else { 0 });
         assert!(rt; store.rests.is_empty());
@@ -292,7 +290,14 @@ fn pairs_are_committed_in_batches(rt: HostRuntime) -> Result<(), Fail> {
         lines: Vec::new(rt.alloc()),
     };
     let text = b"a 1\nb 2\nx\nc 3\nfull 4\nd 5\ne 6\n";
-    let found = imported(rt.alloc(), text.as_slice(), 3, WORDS, &mut store, &mut told);
+    let found = imported(
+        rt.alloc(),
+        text.as_slice(),
+        3,
+        &words(false),
+        &mut store,
+        &mut told,
+    );
     assert!(rt; found.is_ok());
     assert!(rt; store.commits.as_slice() == [2, 4, 5].as_slice());
     // The full key is put behind the second batch's commit.
@@ -308,25 +313,69 @@ fn pairs_are_committed_in_batches(rt: HostRuntime) -> Result<(), Fail> {
 }
 
 #[test]
+fn a_batch_has_as_many_pairs_as_were_committed(rt: HostRuntime) -> Result<(), Fail> {
+    let mut store = FakeStore::new(rt.alloc());
+    let mut told = Told {
+        lines: Vec::new(rt.alloc()),
+    };
+    let text = b"a 1\nb 1\nc 1\nd 1\ne 1\nf 1\ng 1\nh 1\ni 1\nj 1\n";
+    let found = imported(
+        rt.alloc(),
+        text.as_slice(),
+        7,
+        &words(false),
+        &mut store,
+        &mut told,
+    );
+    assert!(rt; found.is_ok());
+    assert!(rt; store.commits.as_slice() == [2, 4, 8, 10].as_slice());
+    assert!(rt; store.rests.as_slice() == [2, 4, 8].as_slice());
+    Ok(())
+}
+
+#[test]
 fn no_rest_comes_behind_the_last_put(rt: HostRuntime) -> Result<(), Fail> {
     let mut store = FakeStore::new(rt.alloc());
     let mut told = Told {
         lines: Vec::new(rt.alloc()),
     };
     let text = b"a 1\nb 2\nx\nc 3\nd 4\n\ny\n";
-    let found = imported(rt.alloc(), text.as_slice(), 4, WORDS, &mut store, &mut told);
+    let found = imported(
+        rt.alloc(),
+        text.as_slice(),
+        4,
+        &words(false),
+        &mut store,
+        &mut told,
+    );
     assert!(rt; found.is_ok());
     assert!(rt; store.commits.as_slice() == [2, 4, 4].as_slice());
     assert!(rt; store.rests.as_slice() == [2].as_slice());
     Ok(())
 }
 
-const CSV: ImportOptions = ImportOptions {
-    format: PairFormat::Csv,
-    is_hex: false,
-    is_atomic: false,
-    batch: 100,
-};
+// Records of these columns, behind what was taken before them.
+fn records(heading: Heading) -> ImportOptions<'static> {
+    ImportOptions {
+        format: PairFormat::Csv,
+        is_hex: false,
+        layout: Layout {
+            columns: heading.columns,
+            ..Layout::usual()
+        },
+        begun: heading.begun,
+        is_atomic: false,
+        batch: 100,
+    }
+}
+
+// Records of a key and a value.
+fn bare_records() -> ImportOptions<'static> {
+    records(Heading {
+        begun: Begun::NOTHING,
+        columns: Columns::two(),
+    })
+}
 
 #[test]
 fn newlines_in_quotes_end_no_line(rt: HostRuntime) -> Result<(), Fail> {
@@ -341,7 +390,7 @@ fn newlines_in_quotes_end_no_line(rt: HostRuntime) -> Result<(), Fail> {
             rt.alloc(),
             text.as_slice(),
             most,
-            CSV,
+            &bare_records(),
             &mut store,
             &mut told,
         );
@@ -353,7 +402,14 @@ fn newlines_in_quotes_end_no_line(rt: HostRuntime) -> Result<(), Fail> {
         assert!(rt; is_pair(store.pairs.first(), b"a\nb", b"\n\"\n"));
         let behind = WrongLine::NoRecord(WrongRecord::BehindQuote { at: 10 });
         let want = [
-            (4, Rejection::Wrong(WrongLine::Fields { count: 1 }), 2),
+            (
+                4,
+                Rejection::Wrong(WrongLine::Fields {
+                    count: 1,
+                    wanted: 2,
+                }),
+                2,
+            ),
             (5, Rejection::Wrong(behind), 10),
         ];
         assert!(rt; told.lines.as_slice() == want.as_slice());
@@ -368,7 +424,14 @@ fn quotes_that_are_not_closed_go_on_to_the_end(rt: HostRuntime) -> Result<(), Fa
         lines: Vec::new(rt.alloc()),
     };
     let text = b"# exhash export csv\na,1\nb,\"2\nc,3\n# exhash end 3\n";
-    let found = imported(rt.alloc(), text.as_slice(), 3, CSV, &mut store, &mut told);
+    let found = imported(
+        rt.alloc(),
+        text.as_slice(),
+        3,
+        &bare_records(),
+        &mut store,
+        &mut told,
+    );
     let Ok(found) = found else {
         return Err(Fail::new("the import failed"));
     };
@@ -394,7 +457,7 @@ fn faults_end_an_import(rt: HostRuntime) -> Result<(), Fail> {
         fails: true,
     };
     let mut lines = LineReader::new(rt.alloc(), &mut reader);
-    let found = import(rt.alloc(), &mut lines, &mut store, WORDS, &mut told);
+    let found = import(rt.alloc(), &mut lines, &mut store, &words(false), &mut told);
     assert!(rt;
         match found {
             Err(ImportFault::Read) => true,
@@ -408,7 +471,7 @@ fn faults_end_an_import(rt: HostRuntime) -> Result<(), Fail> {
         rt.alloc(),
         b"a 1\n".as_slice(),
         9,
-        WORDS,
+        &words(false),
         &mut store,
         &mut told,
     );
@@ -421,7 +484,14 @@ fn faults_end_an_import(rt: HostRuntime) -> Result<(), Fail> {
     store.most = 10_000;
     store.rest_fails = true;
     let text = b"a 1\nb 2\nc 3\n";
-    let found = imported(rt.alloc(), text.as_slice(), 9, WORDS, &mut store, &mut told);
+    let found = imported(
+        rt.alloc(),
+        text.as_slice(),
+        9,
+        &words(false),
+        &mut store,
+        &mut told,
+    );
     assert!(rt;
         match found {
             Err(ImportFault::Refused) => true,
@@ -430,7 +500,14 @@ fn faults_end_an_import(rt: HostRuntime) -> Result<(), Fail> {
     );
     assert!(rt; store.commits.last() == Some(&store.pairs.len()));
     store.commit_fails = true;
-    let found = imported(rt.alloc(), b"".as_slice(), 9, WORDS, &mut store, &mut told);
+    let found = imported(
+        rt.alloc(),
+        b"".as_slice(),
+        9,
+        &words(false),
+        &mut store,
+        &mut told,
+    );
     assert!(rt;
         match found {
             Err(ImportFault::Refused) => true,
@@ -438,7 +515,14 @@ fn faults_end_an_import(rt: HostRuntime) -> Result<(), Fail> {
         }
     );
     let text = b"# exhash export tsv\na 1\n";
-    let found = imported(rt.alloc(), text.as_slice(), 9, WORDS, &mut store, &mut told);
+    let found = imported(
+        rt.alloc(),
+        text.as_slice(),
+        9,
+        &words(false),
+        &mut store,
+        &mut told,
+    );
     assert!(rt;
         match found {
             Err(ImportFault::OtherFormat { found }) => found == PairFormat::Tsv,
@@ -467,7 +551,14 @@ fn long_lines_end_an_import(rt: HostRuntime) -> Result<(), Fail> {
             lines: Vec::new(rt.alloc()),
         };
         let text = long_text(rt.alloc(), 65_536, end)?;
-        let found = imported(rt.alloc(), &text, 8192, WORDS, &mut store, &mut told);
+        let found = imported(
+            rt.alloc(),
+            &text,
+            8192,
+            &words(false),
+            &mut store,
+            &mut told,
+        );
         assert!(rt;
             match found {
                 Ok(found) => found.lines == 2 && found.rejected == 1,
@@ -478,13 +569,166 @@ fn long_lines_end_an_import(rt: HostRuntime) -> Result<(), Fail> {
             told.lines.as_slice() == [(2, Rejection::Wrong(WrongLine::NoValue), 65_536)].as_slice()
         );
         let text = long_text(rt.alloc(), 65_537, end)?;
-        let found = imported(rt.alloc(), &text, 8192, WORDS, &mut store, &mut told);
+        let found = imported(
+            rt.alloc(),
+            &text,
+            8192,
+            &words(false),
+            &mut store,
+            &mut told,
+        );
         assert!(rt;
             match found {
                 Err(ImportFault::LongLine { number }) => number == 2,
                 _ => false
             }
         );
+    }
+    Ok(())
+}
+
+const NAMES: FieldNames<'static> = FieldNames {
+    key: "name",
+    value: "a\nb",
+};
+
+// What a text is headed by, and what becomes of its rest.
+fn headed(
+    alloc: Global,
+    text: &[u8],
+    names: Option<&FieldNames<'_>>,
+    store: &mut FakeStore,
+    told: &mut Told,
+) -> Result<Imported, ImportFault> {
+    let mut reader = FewBytes {
+        rest: text,
+        most: 3,
+        fails: false,
+    };
+    let mut lines = LineReader::new(alloc, &mut reader);
+    lines.pass_mark()?;
+    let heading = take_heading(alloc, &mut lines, names)?;
+    import(alloc, &mut lines, store, &records(heading), told)
+}
+
+// A text with a header, how many pairs it puts, lines it has, lines are rejected, and whether it is cut off.
+type HeadedRow = (&'static [u8], u64, u64, u64, bool);
+
+const HEADED: [HeadedRow; 12] = [
+    (b"", 0, 0, 0, false),
+    (b"\"a\nb\",n,name", 0, 1, 0, false),
+    (b"name,\"a\nb\"\r\nk,v\r\n\r\nl,w", 2, 4, 0, false),
+    (b"n,name,\"a\nb\"\n1,k,v\n2,l\n3,m,w,x\n", 1, 4, 2, false),
+    (
+        b"# exhash export csv\nname,\"a\nb\"\nk,v\n# exhash end 1\n",
+        1,
+        4,
+        0,
+        false,
+    ),
+    (
+        b"# exhash export csv\nname,\"a\nb\"\nk,v\nl,w\n",
+        1,
+        4,
+        0,
+        true,
+    ),
+    (
+        b"# exhash export csv\nname,\"a\nb\"\n# exhash end 0",
+        0,
+        3,
+        0,
+        false,
+    ),
+    (b"# exhash export csv\nname,\"a\nb\"\n", 0, 2, 0, true),
+    (b"# exhash export csv\r\n", 0, 1, 0, true),
+    // Behind a byte order mark.
+    (b"\xef\xbb\xbf", 0, 0, 0, false),
+    (b"\xef\xbb\xbf\"a\nb\",name\nv,k\n", 1, 2, 0, false),
+    (
+        b"\xef\xbb\xbf# exhash export csv\nname,\"a\nb\"\nk,v\n# exhash end 1\n",
+        1,
+        4,
+        0,
+        false,
+    ),
+];
+
+#[test]
+fn texts_with_headers_are_imported(rt: HostRuntime) -> Result<(), Fail> {
+    for (text, pairs, lines, rejected, is_cut_off) in HEADED {
+        let mut store = FakeStore::new(rt.alloc());
+        let mut told = Told {
+            lines: Vec::new(rt.alloc()),
+        };
+        let want = Imported {
+            lines,
+            pairs,
+            rejected,
+            full: 0,
+            is_cut_off,
+            is_committed: true,
+        };
+        let found = headed(rt.alloc(), text, Some(&NAMES), &mut store, &mut told).ok();
+        assert!(rt; found == Some(want), "at {lines}");
+        assert!(rt; pairs == 0 || is_pair(store.pairs.first(), b"k", b"v"));
+        assert!(rt; told.lines.len() as u64 == rejected);
+    }
+    Ok(())
+}
+
+// A text without a right header, and why.
+type Headless = (&'static [u8], Option<FieldNames<'static>>, ImportFault);
+
+#[test]
+fn wrong_headers_end_an_import(rt: HostRuntime) -> Result<(), Fail> {
+    let texts: [Headless; 7] = [
+        (
+            b"name,b\nk,v\n",
+            Some(NAMES),
+            ImportFault::Header(WrongHeader::NoColumn(Field::Value)),
+        ),
+        (
+            b"# exhash export csv\n\"a\nb\",name,\"a\nb\"\nk,v\n",
+            Some(NAMES),
+            ImportFault::Header(WrongHeader::TwoColumns(Field::Value)),
+        ),
+        (
+            b"# exhash export csv\n# exhash end 0\n",
+            None,
+            ImportFault::Header(WrongHeader::NotTwo { count: 1 }),
+        ),
+        (
+            b"\xef\xbbname,b\n",
+            Some(NAMES),
+            ImportFault::Header(WrongHeader::NoColumn(Field::Key)),
+        ),
+        (
+            b"\nname,b\n",
+            Some(NAMES),
+            ImportFault::Header(WrongHeader::NoColumn(Field::Key)),
+        ),
+        (
+            b"name,\"b\nk,v\n",
+            Some(NAMES),
+            ImportFault::Header(WrongHeader::NoRecord(WrongRecord::OpenQuote)),
+        ),
+        (
+            b"# exhash export tsv\nname,b\n",
+            None,
+            ImportFault::OtherFormat {
+                found: PairFormat::Tsv,
+            },
+        ),
+    ];
+    for (text, names, want) in texts {
+        let mut store = FakeStore::new(rt.alloc());
+        let mut told = Told {
+            lines: Vec::new(rt.alloc()),
+        };
+        let found = headed(rt.alloc(), text, names.as_ref(), &mut store, &mut told).err();
+        assert!(rt; found == Some(want));
+        assert!(rt; store.pairs.is_empty() && store.commits.is_empty());
     }
     Ok(())
 }

@@ -1,5 +1,5 @@
 -- The record of a pair reads as the pair; how it begins and ends.
-use Rattle.std.proofs.Common.{◌≡◌, ◌≢◌, ℕ, suc, ◌+◌, ◌-◌, ◌≤◌, ◌⊎◌, List, [], ◌∷◌, ◌++◌, length, get_or, Bool, true, false, cond, Ok, inl, inr, refl, sym, ap, ◌∙◌, flat_map, append_assoc, length-append, arith}
+use Rattle.std.proofs.Common.{◌≡◌, ◌≢◌, ℕ, suc, ◌-◌, ◌≤◌, ◌⊎◌, List, [], ◌∷◌, ◌++◌, length, get_or, Bool, true, false, cond, Ok, inl, inr, refl, sym, ap, ◌∙◌, flat_map, length-append, arith}
 use Rattle.std.specs.Prelude.{nat_eq, ◌||◌}
 use Rattle.std.specs.List.{list_any, starts_with}
 use Rattle.std.proofs.lemmas.Bool.{ne_eqb}
@@ -7,12 +7,12 @@ use Rattle.std.proofs.lemmas.Bool.Decides.{nat_tests}
 use Rattle.std.proofs.lemmas.List.Elements.{recursion_from_All}
 use Rattle.hex.specs.Hex.{lower_digits}
 use Rattle.hex.proofs.HexLemmas.{length-encode_with}
-use Rattle.exh_csv.specs.Fields.{fields_in}
 use Rattle.exh_csv.specs.Laws.{FieldsAreRead}
-use Rattle.exh_csv.specs.Rows.{doubled, field_words, is_special, needs_quotes, quoted, row_words}
+use Rattle.exh_csv.specs.Rows.{doubled, field_words, is_special, needs_quotes, quoted}
 use Rattle.exh_pair_text.specs.declared.field.Field.{Field}
 use Rattle.exh_pair_text.specs.declared.field.Field.TheVariants.{Key, Value}
 use Rattle.exh_pair_text.specs.Lines.{csv_words}
+use Rattle.exh_pair_text.specs.Parts.{two_columns}
 use Rattle.exh_pair_text.specs.Json.{string_by}
 use Rattle.exh_pair_text.specs.Laws.{AreBytes, IsPair}
 use Rattle.exh_pair_text.specs.Reading.{csv_bytes, csv_pair, fields_pair, without_return}
@@ -25,11 +25,11 @@ field_again : (hex : Bool) (field : Field) (bytes : List ℕ) → AreBytes bytes
 field_again true field bytes all = digits_again field bytes (recursion_from_All _ bytes all)
 field_again false field bytes all = refl
 
-two_again : (hex : Bool) (key value : List ℕ) → IsPair key value → fields_pair hex (string_by hex key ∷ string_by hex value ∷ []) ≡ Ok (key, value)
+two_again : (hex : Bool) (key value : List ℕ) → IsPair key value → fields_pair hex two_columns (string_by hex key ∷ string_by hex value ∷ []) ≡ Ok (key, value)
 unfolding fields_pair
 two_again hex key value pair = rw (field_again hex Key key pair.key_bytes, key_kept key pair.some pair.key_limit, field_again hex Value value pair.value_bytes, value_kept value pair.value_limit) refl
 
-pub csv_again : FieldsAreRead → (hex : Bool) (key value : List ℕ) → IsPair key value → csv_pair hex (csv_words hex key value) ≡ Ok (key, value)
+pub csv_again : FieldsAreRead → (hex : Bool) (key value : List ℕ) → IsPair key value → csv_pair hex two_columns (csv_words hex key value) ≡ Ok (key, value)
 unfolding csv_pair
 csv_again law hex key value pair = rw (law (string_by hex key) (string_by hex value ∷ [])) (two_again hex key value pair)
 

@@ -43,13 +43,13 @@ none_by false line is none = rw (sym is) refl
 pub no_json : (line : List ℕ) → (IsUtf8 line → document line ≡ None) → json_in line ≡ None
 no_json line none = none_by (is_utf8 line) line refl none
 
-pub json_ok : (hex : Bool) (line : List ℕ) (json : Json) → IsUtf8 line → document line ≡ Some json → json_pair hex line ≡ object_pair hex json
+pub json_ok : (hex : Bool) (key value line : List ℕ) (json : Json) → IsUtf8 line → document line ≡ Some json → json_pair hex key value line ≡ object_pair hex key value json
 unfolding json_pair
-json_ok hex line json utf8 is = rw (json_found line json utf8 is) refl
+json_ok hex key value line json utf8 is = rw (json_found line json utf8 is) refl
 
-pub json_refused : (hex : Bool) (line : List ℕ) → (IsUtf8 line → document line ≡ None) → json_pair hex line ≡ Err NoJson
+pub json_refused : (hex : Bool) (key value line : List ℕ) → (IsUtf8 line → document line ≡ None) → json_pair hex key value line ≡ Err NoJson
 unfolding json_pair
-json_refused hex line none = rw (no_json line none) refl
+json_refused hex key value line none = rw (no_json line none) refl
 
 pub plain_tokens : (hex : Bool) (field : Field) (bytes name text : List ℕ) → in_digits hex bytes ≡ false → name ≡ plain_name field → text ≡ bytes
     → Token.key name ∷ Token.string text ∷ [] ≡ Token.key (name_by (in_digits hex bytes) field) ∷ Token.string (string_by (in_digits hex bytes) bytes) ∷ []

@@ -9,3 +9,4 @@ pub mod JsonText
 pub mod JsonAgain
 pub mod CsvAgain
 pub mod Marks
+pub mod Records

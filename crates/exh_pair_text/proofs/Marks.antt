@@ -12,7 +12,6 @@ use Rattle.std.proofs.lemmas.Option.{cond_some}
 use Rattle.std.proofs.lemmas.Slice.Eq.{bytes_eq-Decides, starts_is}
 use Rattle.hex.specs.Hex.{lower_digits}
 use Rattle.hex.proofs.HexLemmas.{length-encode_with}
-use Rattle.exh_csv.specs.declared.place.Place.{Place}
 use Rattle.exh_csv.specs.declared.place.Place.TheVariants.{Start, Quoted}
 use Rattle.exh_csv.specs.Laws.{FieldsAreRead, RecordsAreWhole}
 use Rattle.exh_csv.specs.Places.{AreQuoted, place_behind}
@@ -30,6 +29,7 @@ use Rattle.exh_pair_text.specs.Formats.{format_named, separator, tab}
 use Rattle.exh_pair_text.specs.Laws.{IsPair, PairsAreOneLine, PairsAreRead}
 use Rattle.exh_pair_text.specs.Json.{in_digits, json_words, string_by}
 use Rattle.exh_pair_text.specs.Lines.{csv_words, end_words, field_text, json_end_words, json_opening, opening_words, separated_words}
+use Rattle.exh_pair_text.specs.Parts.{usual}
 use Rattle.exh_pair_text.specs.Reading.{before_end, cut_at, end_in, json_end_in, line_read, opening_in, pair_in, separated_pair, text_read}
 use Rattle.exh_pair_text.proofs.Again.{field_again, field_other, graphic_other}
 use Rattle.exh_pair_text.proofs.Cases.{key_kept, value_kept}
@@ -232,7 +232,7 @@ pair_again format hex key value pair =
       value_kept value pair.value_limit,
     ) refl
 
-line_by : (format : PairFormat) (hex : Bool) (line : List ℕ) (pair : List ℕ × List ℕ) → opening_in line ≡ None → end_in line ≡ None → pair_in format hex line ≡ Ok pair → (line ≡ [] → ⊥) → text_read format hex line ≡ Pair pair.0 pair.1
+line_by : (format : PairFormat) (hex : Bool) (line : List ℕ) (pair : List ℕ × List ℕ) → opening_in line ≡ None → end_in line ≡ None → pair_in format hex usual line ≡ Ok pair → (line ≡ [] → ⊥) → text_read format hex usual line ≡ Pair pair.0 pair.1
 unfolding text_read
 line_by format hex [] pair opening end is some = absurd (some refl)
 line_by format hex (byte ∷ line) pair opening end is some = rw (opening, end, is) refl
@@ -249,14 +249,14 @@ object_end : (rest : List ℕ) → end_in (123 ∷ 34 ∷ 107 ∷ rest) ≡ None
 unfolding end_in json_end_in
 object_end rest = refl
 
-object_read : (hex : Bool) (key value : List ℕ) → IsPair key value → line_read whole.Jsonl hex (json_words hex key value) ≡ Pair key value
+object_read : (hex : Bool) (key value : List ℕ) → IsPair key value → line_read whole.Jsonl hex usual (json_words hex key value) ≡ Pair key value
 object_read hex key value pair =
     let begins = begins_so (in_digits hex key) (in_digits hex value) key value in
     line_by whole.Jsonl hex (json_words hex key value) (key, value) (ap opening_in begins.1 ∙ object_opening begins.0) (ap end_in begins.1 ∙ object_end begins.0) (json_again hex key value pair)
     (λ is. omega (arith, ap length is, ap length begins.1))
 
-words_read : (format : PairFormat) (apart : Separated) (hex : Bool) (key value : List ℕ) → IsPair key value → pair_in format hex (separated_words apart hex key value) ≡ separated_pair apart hex (separated_words apart hex key value)
-    → text_read format hex (separated_words apart hex key value) ≡ Pair key value
+words_read : (format : PairFormat) (apart : Separated) (hex : Bool) (key value : List ℕ) → IsPair key value → pair_in format hex usual (separated_words apart hex key value) ≡ separated_pair apart hex (separated_words apart hex key value)
+    → text_read format hex usual (separated_words apart hex key value) ≡ Pair key value
 words_read format apart hex key value pair same =
     let keys = recursion_from_All _ key pair.key_bytes in
     line_by format hex (separated_words apart hex key value) (key, value) (no_opening apart hex key value keys pair.some) (no_end apart hex key value keys pair.some)
@@ -307,11 +307,11 @@ begun_end : (line : List ℕ) → Begins line → end_in line ≡ None
 begun_end line (inl (rest, is)) = ap end_in is ∙ quoted_end rest
 begun_end line (inr (first, second)) = plain_end line first second
 
-record_read : FieldsAreRead → (hex : Bool) (key value : List ℕ) → IsPair key value → line_read whole.Csv hex (csv_words hex key value) ≡ Pair key value
+record_read : FieldsAreRead → (hex : Bool) (key value : List ℕ) → IsPair key value → line_read whole.Csv hex usual (csv_words hex key value) ≡ Pair key value
 record_read law hex key value pair =
     let some = string_some hex key pair.some in
     let begins = csv_begins hex key value some in
-    ap (text_read whole.Csv hex) (csv_kept hex key value)
+    ap (text_read whole.Csv hex usual) (csv_kept hex key value)
     ∙ line_by whole.Csv hex (csv_words hex key value) (key, value) (begun_opening (csv_words hex key value) begins) (begun_end (csv_words hex key value) begins) (csv_again law hex key value pair) (csv_some hex key value some)
 
 pub pairs_are_read : FieldsAreRead → PairsAreRead

@@ -5,6 +5,7 @@ use Rattle.exh_page.specs.declared.value.TheConstants.{VALUE_LIMIT}
 use Rattle.exh_pair_text.specs.declared.line.Line.TheVariants.{Pair}
 use Rattle.exh_pair_text.specs.declared.pair_format.PairFormat.{PairFormat}
 use Rattle.exh_pair_text.specs.Lines.{pair_words}
+use Rattle.exh_pair_text.specs.Parts.{usual}
 use Rattle.exh_pair_text.specs.Reading.{line_read}
 use Rattle.exh_pair_text.specs.Records.{IsEnded, IsOneLine}
 
@@ -21,7 +22,7 @@ pub record IsPair (key value : List ℕ) : Type 0 where
 
 -- its line reads as the pair
 abbrev pub PairsAreRead : Type 0
-PairsAreRead = (format : PairFormat) (hex : Bool) (key value : List ℕ) → IsPair key value → line_read format hex (pair_words format hex key value) ≡ Pair key value
+PairsAreRead = (format : PairFormat) (hex : Bool) (key value : List ℕ) → IsPair key value → line_read format hex usual (pair_words format hex key value) ≡ Pair key value
 
 -- with a newline behind it, it is one line
 abbrev pub PairsAreOneLine : Type 0

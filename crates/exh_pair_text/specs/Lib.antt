@@ -3,7 +3,9 @@ pub mod Formats
 pub mod Bytes
 pub mod Json
 pub mod Lines
+pub mod Parts
 pub mod Reading
+pub mod Header
 pub mod Records
 pub mod Spelled
 pub mod Reads

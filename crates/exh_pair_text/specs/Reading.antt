@@ -1,5 +1,5 @@
 -- What a line of a text of pairs reads as.
-use Rattle.std.specs.Prelude.{ℕ, zero, suc, ◌+◌, ◌-◌, ◌==◌, List, [], ◌∷◌, length, get_or, take, nat_le, Bool, true, false, if◌then◌else◌, Option, Some, None, Result, Ok, Err}
+use Rattle.std.specs.Prelude.{ℕ, zero, suc, ◌+◌, ◌-◌, ◌==◌, ◌&&◌, List, [], ◌∷◌, length, get_or, take, nat_le, nat_lt, Bool, true, false, if◌then◌else◌, Option, Some, None, Result, Ok, Err}
 use Rattle.std.specs.Str.{bytes_eq, is_utf8}
 use Rattle.std.specs.Option.{option_and_then, option_map}
 use Rattle.json.specs.Find.{as_str, get}
@@ -22,8 +22,9 @@ use Rattle.exh_csv.specs.Fields.{fields_in}
 use Rattle.exh_csv.specs.declared.wrong_record.WrongRecord.{WrongRecord}
 use Rattle.exh_pair_text.specs.Bytes.{first_byte, return}
 use Rattle.exh_pair_text.specs.Formats.{format_named, separator, tab}
-use Rattle.exh_pair_text.specs.Json.{digits_name, plain_name}
 use Rattle.exh_pair_text.specs.Lines.{end_words, json_end_words, json_opening, opening_words}
+use Rattle.exh_pair_text.specs.Parts.{Parts, digits_of}
+use Rattle.exh_pair_text.specs.declared.columns.Columns.{Columns}
 
 -- the first fault decides
 infixl 10 ◌>>=◌
@@ -111,21 +112,26 @@ either_bytes field hex None (Some digits) = hex_bytes field digits
 either_bytes field true (Some text) None = hex_bytes field text
 either_bytes field false (Some text) None = Ok text
 
-unfoldable pub json_bytes : Field → Bool → Json → Result (List ℕ) WrongLine
-json_bytes field hex json = do
-  text ← string_in field (get (plain_name field) json)
-  digits ← string_in field (get (digits_name field) json)
+-- by the names of both fields
+unfoldable pub json_bytes : Field → Bool → List ℕ → List ℕ → Json → Result (List ℕ) WrongLine
+json_bytes field hex name digits_name json = do
+  text ← string_in field (get name json)
+  digits ← string_in field (get digits_name json)
   either_bytes field hex text digits
 
-unfoldable pub object_pair : Bool → Json → Result (List ℕ × List ℕ) WrongLine
-object_pair hex json = do
-  key ← json_bytes Key hex json >>= key_of_bytes
-  value ← json_bytes Value hex json >>= value_of_bytes
+-- by those of the key, and those of the value
+unfoldable pub named_pair : Bool → List ℕ → List ℕ → List ℕ → List ℕ → Json → Result (List ℕ × List ℕ) WrongLine
+named_pair hex key_name key_digits value_name value_digits json = do
+  key ← json_bytes Key hex key_name key_digits json >>= key_of_bytes
+  value ← json_bytes Value hex value_name value_digits json >>= value_of_bytes
   Ok (key, value)
 
--- the pair of a line that is an object
-unfoldable pub json_pair : Bool → List ℕ → Result (List ℕ × List ℕ) WrongLine
-json_pair hex line = or_wrong NoJson (json_in line) >>= object_pair hex
+unfoldable pub object_pair : Bool → List ℕ → List ℕ → Json → Result (List ℕ × List ℕ) WrongLine
+object_pair hex key value json = named_pair hex key (digits_of key) value (digits_of value) json
+
+-- the pair of a line that is an object, with fields of these names
+unfoldable pub json_pair : Bool → List ℕ → List ℕ → List ℕ → Result (List ℕ × List ℕ) WrongLine
+json_pair hex key value line = or_wrong NoJson (json_in line) >>= object_pair hex key value
 
 -- ---- comma-separated fields
 
@@ -133,9 +139,14 @@ abbrev pub or_no_record : {A : Type 0} → Result A WrongRecord → Result A Wro
 or_no_record (Ok found) = Ok found
 or_no_record (Err wrong) = Err (NoRecord wrong)
 
-abbrev pub two_fields : List (List ℕ) → Result (List ℕ × List ℕ) WrongLine
-two_fields (key ∷ value ∷ []) = Ok (key, value)
-two_fields fields = Err (Fields (length fields))
+-- a record has as many fields as there are columns, and the key's and the value's are among them
+abbrev pub has_columns : Columns → ℕ → Bool
+has_columns columns count = (count == columns.width) && (nat_lt columns.key count && nat_lt columns.value count)
+
+abbrev pub two_fields : Columns → List (List ℕ) → Result (List ℕ × List ℕ) WrongLine
+two_fields columns fields =
+    if has_columns columns (length fields) then Ok (get_or fields columns.key [], get_or fields columns.value [])
+    else Err (Fields (length fields) columns.width)
 
 -- the bytes of a field, or those that its hexadecimal digits spell
 abbrev pub csv_bytes : Field → Bool → List ℕ → Result (List ℕ) WrongLine
@@ -148,21 +159,21 @@ two_spelled hex first second = do
   value ← csv_bytes Value hex second >>= value_of_bytes
   Ok (key, value)
 
-unfoldable pub fields_pair : Bool → List (List ℕ) → Result (List ℕ × List ℕ) WrongLine
-fields_pair hex fields = two_fields fields >>= λ two. two_spelled hex two.0 two.1
+unfoldable pub fields_pair : Bool → Columns → List (List ℕ) → Result (List ℕ × List ℕ) WrongLine
+fields_pair hex columns fields = two_fields columns fields >>= λ two. two_spelled hex two.0 two.1
 
--- the pair of a record of two fields
-unfoldable pub csv_pair : Bool → List ℕ → Result (List ℕ × List ℕ) WrongLine
-csv_pair hex line = or_no_record (fields_in line) >>= fields_pair hex
+-- the pair of a record of these columns
+unfoldable pub csv_pair : Bool → Columns → List ℕ → Result (List ℕ × List ℕ) WrongLine
+csv_pair hex columns line = or_no_record (fields_in line) >>= fields_pair hex columns
 
 -- ---- lines
 
 -- the pair of a line
-abbrev pub pair_in : PairFormat → Bool → List ℕ → Result (List ℕ × List ℕ) WrongLine
-pair_in Words hex line = separated_pair apart.Words hex line
-pair_in Tsv hex line = separated_pair apart.Tsv hex line
-pair_in Jsonl hex line = json_pair hex line
-pair_in Csv hex line = csv_pair hex line
+abbrev pub pair_in : PairFormat → Bool → Parts → List ℕ → Result (List ℕ × List ℕ) WrongLine
+pair_in Words hex parts line = separated_pair apart.Words hex line
+pair_in Tsv hex parts line = separated_pair apart.Tsv hex line
+pair_in Jsonl hex parts line = json_pair hex parts.key parts.value line
+pair_in Csv hex parts line = csv_pair hex parts.columns line
 
 abbrev pub pair_or_wrong : Result (List ℕ × List ℕ) WrongLine → Line
 pair_or_wrong (Ok pair) = Pair pair.0 pair.1
@@ -193,9 +204,9 @@ unmarked (Some format) count line = Opening format
 unmarked None (Some count) line = End count
 unmarked None None line = line
 
-unfoldable pub text_read : PairFormat → Bool → List ℕ → Line
-text_read format hex [] = Empty
-text_read format hex (byte ∷ line) = unmarked (opening_in (byte ∷ line)) (end_in (byte ∷ line)) (pair_or_wrong (pair_in format hex (byte ∷ line)))
+unfoldable pub text_read : PairFormat → Bool → Parts → List ℕ → Line
+text_read format hex parts [] = Empty
+text_read format hex parts (byte ∷ line) = unmarked (opening_in (byte ∷ line)) (end_in (byte ∷ line)) (pair_or_wrong (pair_in format hex parts (byte ∷ line)))
 
 -- a line that ends with a carriage return, without it
 unfoldable pub without_return : List ℕ → List ℕ
@@ -208,5 +219,5 @@ own_text Tsv line = line
 own_text Jsonl line = line
 own_text Csv line = without_return line
 
-abbrev pub line_read : PairFormat → Bool → List ℕ → Line
-line_read format hex line = text_read format hex (own_text format line)
+abbrev pub line_read : PairFormat → Bool → Parts → List ℕ → Line
+line_read format hex parts line = text_read format hex parts (own_text format line)

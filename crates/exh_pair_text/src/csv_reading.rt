@@ -4,36 +4,43 @@ ghost use Rattle.exh_pair_text.specs.Reading.{csv_bytes, csv_pair, fields_pair, 
 ghost use Rattle.exh_pair_text.specs.Spelled.{all_spelled};
 
 use crate::spelled::Spelled;
-use crate::{Field, WrongLine};
+use crate::{Columns, Field, WrongLine};
 use exh_csv::fields_of;
 use exh_page::{Key, Value};
 use std::alloc::{AllocError, Global};
 
-/// The pair of a line, which is to be a record of two fields.
+/// The pair of a line, which is to be a record of these columns.
 #[tactic(auto, unfolding(crate::specs::Reading::csv_pair))]
 pub(crate) fn csv_pair(
     alloc: Global,
     is_hex: bool,
+    columns: Columns,
     line: &[u8],
 ) -> Result<Result<(Key, Value), WrongLine>, AllocError>
-    ensures { IfOk result (λ pair. pair ≡ csv_pair is_hex line.now) }
+    ensures { IfOk result (λ pair. pair ≡ csv_pair is_hex columns line.now) }
 {
     match fields_of(alloc, line)? {
-        Ok(fields) => Ok(fields_pair(is_hex, &fields)),
+        Ok(fields) => Ok(fields_pair(is_hex, columns, &fields)),
         Err(wrong) => Ok(Err(WrongLine::NoRecord(wrong))),
     }
 }
 
-// The pair of two fields.
-#[tactic(auto, unfolding(crate::specs::Reading::fields_pair))]
-fn fields_pair(is_hex: bool, fields: &[Vec<u8>]) -> Result<(Key, Value), WrongLine>
-    ensures { result ≡ fields_pair is_hex (map (λ field. field.items) fields.now) }
+// The pair of the fields of a record.
+#[tactic(auto, using(crate::proofs::Records::chosen, crate::proofs::Records::unchosen))]
+fn fields_pair(
+    is_hex: bool,
+    columns: Columns,
+    fields: &[Vec<u8>],
+) -> Result<(Key, Value), WrongLine>
+    ensures { result ≡ fields_pair is_hex columns (map (λ field. field.items) fields.now) }
 {
-    match fields {
-        [key, value] => two_spelled(is_hex, key, value),
-        _ => Err(WrongLine::Fields {
+    if columns.fit(fields.len()) {
+        two_spelled(is_hex, &fields[columns.key], &fields[columns.value])
+    } else {
+        Err(WrongLine::Fields {
             count: fields.len(),
-        }),
+            wanted: columns.width,
+        })
     }
 }
 

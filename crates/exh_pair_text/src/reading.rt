@@ -4,6 +4,7 @@ ghost use Rattle.std.specs.Option.{option_and_then};
 ghost use Rattle.exh_text.specs.Numbers.{after_prefix, index_spelled};
 ghost use Rattle.exh_pair_text.specs.Lines.{end_words, opening_words};
 ghost use Rattle.exh_pair_text.specs.Formats.{format_named};
+ghost use Rattle.exh_pair_text.specs.Parts.{parts_of};
 ghost use Rattle.exh_pair_text.specs.Reading.{cut_at, end_in, json_end_in, line_read, opening_in, own_text, pair_in, pair_or_wrong, separated_pair, text_read};
 ghost use Rattle.exh_pair_text.specs.Reads.{cut_lists};
 
@@ -11,7 +12,7 @@ use crate::csv_reading::csv_pair;
 use crate::json_reading::json_pair;
 use crate::separated::Separated;
 use crate::spelled::Spelled;
-use crate::{Field, Line, PairFormat, WrongLine};
+use crate::{Field, Layout, Line, PairFormat, WrongLine};
 use exh_page::{Key, Value};
 use exh_text::parse_u64;
 use memchr::memchr;
@@ -19,23 +20,31 @@ use std::alloc::{AllocError, Global};
 
 const JSON_OPENING: &str = "{\"exhash\":\"export\",\"format\":\"jsonl\"}";
 
-/// What a line without its newline reads as, where keys and values are written in this format, or in hexadecimal digits. An
-/// opening or an end is one whatever the format. An `Err`, which comes of `jsonl` and `csv` alone: out of memory.
+/// What a line without its newline reads as, where keys and values are written in this format, or in hexadecimal digits, and in
+/// these parts of a record or an object. An opening or an end is one whatever the format. An `Err`, which comes of `jsonl` and
+/// `csv` alone: out of memory.
 pub fn line_of(
     alloc: Global,
     format: PairFormat,
     is_hex: bool,
+    layout: &Layout<'_>,
     line: &[u8],
 ) -> Result<Line, AllocError>
-    ensures { IfOk result (λ read. read ≡ line_read format is_hex line.now) }
+    ensures { IfOk result (λ read. read ≡ line_read format is_hex (parts_of layout.now) line.now) }
 {
-    text_of(alloc, format, is_hex, own_text(format, line))
+    text_of(alloc, format, is_hex, layout, own_text(format, line))
 }
 
 // What a line reads as without what stands before its newline for some programs alone.
 #[tactic(auto, unfolding(crate::specs::Reading::text_read))]
-fn text_of(alloc: Global, format: PairFormat, is_hex: bool, line: &[u8]) -> Result<Line, AllocError>
-    ensures { IfOk result (λ read. read ≡ text_read format is_hex line.now) }
+fn text_of(
+    alloc: Global,
+    format: PairFormat,
+    is_hex: bool,
+    layout: &Layout<'_>,
+    line: &[u8],
+) -> Result<Line, AllocError>
+    ensures { IfOk result (λ read. read ≡ text_read format is_hex (parts_of layout.now) line.now) }
 {
     if line.is_empty() {
         return Ok(Line::Empty);
@@ -46,12 +55,12 @@ fn text_of(alloc: Global, format: PairFormat, is_hex: bool, line: &[u8]) -> Resu
     if let Some(count) = end_in(line) {
         return Ok(Line::End(count));
     }
-    Ok(pair_or_wrong(pair_in(alloc, format, is_hex, line)?))
+    Ok(pair_or_wrong(pair_in(alloc, format, is_hex, layout, line)?))
 }
 
 // Of comma-separated fields the line without a carriage return at its end.
 #[tactic(auto, unfolding(crate::specs::Reading::without_return))]
-fn own_text(format: PairFormat, line: &[u8]) -> &[u8]
+pub(crate) fn own_text(format: PairFormat, line: &[u8]) -> &[u8]
     ensures { result.now ≡ own_text format line.now }
 {
     match (format, line) {
@@ -124,15 +133,16 @@ fn pair_in(
     alloc: Global,
     format: PairFormat,
     is_hex: bool,
+    layout: &Layout<'_>,
     line: &[u8],
 ) -> Result<Result<(Key, Value), WrongLine>, AllocError>
-    ensures { IfOk result (λ pair. pair ≡ pair_in format is_hex line.now) }
+    ensures { IfOk result (λ pair. pair ≡ pair_in format is_hex (parts_of layout.now) line.now) }
 {
     match format {
         PairFormat::Words => Ok(separated_pair(Separated::Words, is_hex, line)),
         PairFormat::Tsv => Ok(separated_pair(Separated::Tsv, is_hex, line)),
-        PairFormat::Jsonl => json_pair(alloc, is_hex, line),
-        PairFormat::Csv => csv_pair(alloc, is_hex, line),
+        PairFormat::Jsonl => json_pair(alloc, is_hex, &layout.names, line),
+        PairFormat::Csv => csv_pair(alloc, is_hex, layout.columns, line),
     }
 }
 

@@ -1,6 +1,9 @@
 //! Texts of pairs, written by hand from the formats' own words.
 
-use crate::{Field, Line, PairFormat, WrongLine, line_of, push_end, push_opening, push_pair};
+use crate::{
+    Columns, Field, FieldNames, Layout, Line, PairFormat, WrongHeader, WrongLine, columns_of,
+    line_of, push_end, push_opening, push_pair,
+};
 use exh_csv::{Place, WrongRecord};
 use std::alloc::{AllocError, Global};
 use std::fmt::Display;
@@ -54,7 +57,7 @@ fn is_again(alloc: Global, key: &[u8], value: &[u8]) -> Result<bool, AllocError>
             let Some(line) = text.as_slice().strip_suffix(b"\n") else {
                 return Ok(false);
             };
-            let read = line_of(alloc, format, is_hex, line)?;
+            let read = line_of(alloc, format, is_hex, &Layout::usual(), line)?;
             if !is_one_line(format, line) || !is_pair(read, key, value) {
                 return Ok(false);
             }
@@ -257,7 +260,7 @@ const READ: [Written; 15] = [
 #[test]
 fn other_spellings_are_read(rt: HostRuntime) -> Result<(), Fail> {
     for (format, is_hex, key, value, line) in READ {
-        let read = line_of(rt.alloc(), format, is_hex, line)?;
+        let read = line_of(rt.alloc(), format, is_hex, &Layout::usual(), line)?;
         assert!(rt; is_pair(read, key, value));
     }
     Ok(())
@@ -416,19 +419,28 @@ const WRONG: [Refused; 40] = [
         PairFormat::Csv,
         false,
         b"ann",
-        WrongLine::Fields { count: 1 },
+        WrongLine::Fields {
+            count: 1,
+            wanted: 2,
+        },
     ),
     (
         PairFormat::Csv,
         false,
         b"\"ann,red\"",
-        WrongLine::Fields { count: 1 },
+        WrongLine::Fields {
+            count: 1,
+            wanted: 2,
+        },
     ),
     (
         PairFormat::Csv,
         false,
         b"ann,red,",
-        WrongLine::Fields { count: 3 },
+        WrongLine::Fields {
+            count: 3,
+            wanted: 2,
+        },
     ),
     (PairFormat::Csv, false, b",red", WrongLine::EmptyKey),
     (PairFormat::Csv, false, b"\"\",red", WrongLine::EmptyKey),
@@ -460,7 +472,7 @@ const WRONG: [Refused; 40] = [
 ];
 
 fn wrong_in(alloc: Global, format: PairFormat, is_hex: bool, line: &[u8]) -> Option<WrongLine> {
-    match line_of(alloc, format, is_hex, line) {
+    match line_of(alloc, format, is_hex, &Layout::usual(), line) {
         Ok(Line::Wrong(wrong)) => Some(wrong),
         _ => None,
     }
@@ -501,7 +513,7 @@ fn long_keys_and_values_are_refused(rt: HostRuntime) -> Result<(), Fail> {
 
 // Whether a line reads as an opening of this format.
 fn is_opening(alloc: Global, line: &[u8], format: PairFormat) -> bool {
-    match line_of(alloc, PairFormat::Words, false, line) {
+    match line_of(alloc, PairFormat::Words, false, &Layout::usual(), line) {
         Ok(Line::Opening(found)) => found == format,
         _ => false,
     }
@@ -509,7 +521,7 @@ fn is_opening(alloc: Global, line: &[u8], format: PairFormat) -> bool {
 
 // Whether a line reads as an end of so many pairs.
 fn is_end(alloc: Global, line: &[u8], count: u64) -> bool {
-    match line_of(alloc, PairFormat::Tsv, true, line) {
+    match line_of(alloc, PairFormat::Tsv, true, &Layout::usual(), line) {
         Ok(Line::End(found)) => found == count,
         _ => false,
     }
@@ -540,7 +552,7 @@ fn openings_and_ends_are_read(rt: HostRuntime) -> Result<(), Fail> {
     assert!(rt; is_end(rt.alloc(), b"# exhash end 18446744073709551615", u64::MAX));
     assert!(rt; !is_end(rt.alloc(), b"# exhash end 18446744073709551616", u64::MAX));
     assert!(rt;
-        match line_of(rt.alloc(), PairFormat::Tsv, false, b"") {
+        match line_of(rt.alloc(), PairFormat::Tsv, false, &Layout::usual(), b"") {
             Ok(Line::Empty) => true,
             _ => false
         }
@@ -566,6 +578,89 @@ fn sentences(rt: HostRuntime) -> Result<(), Fail> {
     let record = WrongLine::NoRecord(WrongRecord::BehindQuote { at: 6 });
     assert!(rt; prints(rt.alloc(), &record, behind)?);
     let fields = "2 fields are wanted, and it has 3";
-    assert!(rt; prints(rt.alloc(), &WrongLine::Fields { count: 3 }, fields)?);
+    assert!(rt;
+        prints(
+            rt.alloc(),
+            &WrongLine::Fields {
+                count: 3,
+                wanted: 2
+            },
+            fields
+        )?
+    );
+    Ok(())
+}
+
+// The columns that a header gives, asked for by names, or without.
+type Headed = (
+    &'static [u8],
+    Option<FieldNames<'static>>,
+    Result<Columns, WrongHeader>,
+);
+
+const CITY: Option<FieldNames<'static>> = Some(FieldNames {
+    key: "name",
+    value: "town, or city",
+});
+
+const fn columns(key: usize, value: usize, width: usize) -> Columns {
+    Columns { key, value, width }
+}
+
+#[test]
+fn headers_give_these_columns(rt: HostRuntime) -> Result<(), Fail> {
+    let headers: [Headed; 9] = [
+        (b"a,b\r", None, Ok(columns(0, 1, 2))),
+        (b"name", None, Err(WrongHeader::NotTwo { count: 1 })),
+        (b"a,b,c", None, Err(WrongHeader::NotTwo { count: 3 })),
+        (b"name,\"town, or city\"\r", CITY, Ok(columns(0, 1, 2))),
+        (b"n,\"town, or city\",,name", CITY, Ok(columns(3, 1, 4))),
+        (b"name,town", CITY, Err(WrongHeader::NoColumn(Field::Value))),
+        (b"NAME,name ", CITY, Err(WrongHeader::NoColumn(Field::Key))),
+        (
+            b"name,b,name",
+            CITY,
+            Err(WrongHeader::TwoColumns(Field::Key)),
+        ),
+        (
+            b"name,\"b",
+            CITY,
+            Err(WrongHeader::NoRecord(WrongRecord::OpenQuote)),
+        ),
+    ];
+    for (header, names, want) in headers {
+        let found = columns_of(rt.alloc(), names.as_ref(), header)?;
+        assert!(rt; found == want);
+    }
+    Ok(())
+}
+
+#[test]
+fn pairs_stand_in_these_parts(rt: HostRuntime) -> Result<(), Fail> {
+    let layout = Layout {
+        columns: columns(2, 0, 3),
+        names: FieldNames {
+            key: "name",
+            value: "key",
+        },
+    };
+    let record = line_of(
+        rt.alloc(),
+        PairFormat::Csv,
+        false,
+        &layout,
+        b"v,\"x\"\"\",k\r",
+    )?;
+    assert!(rt; is_pair(record, b"k", b"v"));
+    for line in [b"a,b".as_slice(), b"a,b,c,d".as_slice()] {
+        let found = match line_of(rt.alloc(), PairFormat::Csv, false, &layout, line)? {
+            Line::Wrong(WrongLine::Fields { wanted, .. }) => wanted,
+            _ => 0,
+        };
+        assert!(rt; found == 3);
+    }
+    let object = b"{\"key_hex\":\"00\",\"value\":\"other\",\"name\":\"k\"}";
+    let object = line_of(rt.alloc(), PairFormat::Jsonl, false, &layout, object)?;
+    assert!(rt; is_pair(object, b"k", b"\0"));
     Ok(())
 }

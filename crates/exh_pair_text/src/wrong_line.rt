@@ -34,21 +34,21 @@ pub enum WrongLine {
     #[error("it is no JSON object")]
     NoJson,
     /// The object has neither the field of the key or value nor the one with its hexadecimal digits.
-    #[error("it has neither the field {0} nor {0}_hex")]
+    #[error("it has neither the field for its {0} nor that with `_hex` behind the name")]
     NoField(Field),
     /// The field of the key or value has no string.
-    #[error("the value of the field {0} or {0}_hex is no string")]
+    #[error("the field for its {0} has no string")]
     NoString(Field),
     /// The string has another byte than hexadecimal digits, or an odd number of them.
     #[error("its {0} in hexadecimal digits has another byte, or an odd number of digits")]
     NoHex(Field),
     /// The object has both fields.
-    #[error("it has both fields {0} and {0}_hex")]
+    #[error("it has both the field for its {0} and that with `_hex` behind the name")]
     TwoFields(Field),
     /// The line is no record of comma-separated fields.
     #[error("{0}")]
     NoRecord(WrongRecord),
-    /// The record has so many fields, and not two.
-    #[error("2 fields are wanted, and it has {count}")]
-    Fields { count: usize },
+    /// The record has so many fields, and another number is wanted.
+    #[error("{wanted} fields are wanted, and it has {count}")]
+    Fields { count: usize, wanted: usize },
 }

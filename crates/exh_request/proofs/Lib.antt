@@ -2,4 +2,3 @@ pub mod Causes
 pub mod Lines
 pub mod Paths
 pub mod Places
-pub mod Repeats

@@ -1,5 +1,5 @@
 -- What the options of a command say.
-use Rattle.std.specs.Prelude.{◌&&◌, ◌||◌, ℕ, Bool, true, false, List, [], ◌∷◌, leb, nat_lt, count_by, Option, Some, None, is_some, unwrap_or, Result, Ok, Err, codes, if◌then◌else◌}
+use Rattle.std.specs.Prelude.{◌&&◌, ◌||◌, ℕ, Bool, true, false, List, leb, Option, Some, None, is_some, unwrap_or, Result, Ok, Err, codes, if◌then◌else◌}
 use Rattle.std.specs.Str.{bytes_eq}
 use Rattle.exh_keyer.specs.declared.any_keyer.AnyKeyer.{AnyKeyer}
 use Rattle.exh_keyer.specs.declared.any_keyer.AnyKeyer.TheVariants.{Sha}
@@ -11,39 +11,18 @@ use Rattle.exh_text.specs.Numbers.{number_spelled}
 use Rattle.exh_pair_text.specs.Formats.{format_named}
 use Rattle.exh_pair_text.specs.declared.pair_format.PairFormat.{PairFormat}
 use Rattle.exh_pair_text.specs.declared.pair_format.PairFormat.TheVariants.{Words}
-use Rattle.exh_request.specs.declared.command_option.CommandOption.{CommandOption}
-use Rattle.exh_request.specs.declared.command_option.CommandOption.TheVariants.{Atomic, Bare, Cap, Create, Format, From, Hex, Json, Keyer, New, Raw, Replace, Wait, Wards}
+use Rattle.exh_words.specs.declared.command_option.CommandOption.{CommandOption}
+use Rattle.exh_words.specs.declared.command_option.CommandOption.TheVariants.{Atomic, Bare, Cap, Create, Format, From, Header, Hex, Json, Keyer, New, Raw, Replace, Wait, Wards}
 use Rattle.exh_request.specs.declared.given_settings.GivenSettings.{GivenSettings}
 use Rattle.exh_request.specs.declared.options.Options.{Options}
 use Rattle.exh_request.specs.declared.options.TheConstants.{USUAL_WAIT, WAIT_LIMIT}
 use Rattle.exh_request.specs.declared.put_when.PutWhen.{PutWhen}
 use Rattle.exh_request.specs.declared.put_when.PutWhen.TheVariants as put
-use Rattle.exh_request.specs.declared.wrong_request.WrongCause.{WrongCause}
-use Rattle.exh_request.specs.declared.wrong_request.WrongCause.TheVariants.{BadValue, NewAndReplace, Twice}
-use Rattle.exh_request.specs.Causes.{◌>>=◌}
-use Rattle.exh_request.specs.Commands.{is_same_option}
-use Rattle.exh_request.specs.Line.{UsedOption}
-
--- ---- the uses of an option
-
-abbrev pub is_of : CommandOption → UsedOption → Bool
-is_of option one = is_same_option one.option option
-
--- the value of its first use
-abbrev pub value_given : CommandOption → List UsedOption → Option (List ℕ)
-value_given option [] = None
-value_given option (one ∷ rest) = if is_of option one then Some one.value else value_given option rest
-
-abbrev pub is_used : CommandOption → List UsedOption → Bool
-is_used option uses = is_some (value_given option uses)
-
--- the first of some options that is used twice among all
-abbrev pub repeated_of : List UsedOption → List UsedOption → Option CommandOption
-repeated_of all [] = None
-repeated_of all (one ∷ rest) = if nat_lt 1 (count_by (is_of one.option) all) then Some one.option else repeated_of all rest
-
-abbrev pub repeated : List UsedOption → Option CommandOption
-repeated uses = repeated_of uses uses
+use Rattle.exh_words.specs.declared.wrong_request.WrongCause.{WrongCause}
+use Rattle.exh_words.specs.declared.wrong_request.WrongCause.TheVariants.{BadValue, NewAndReplace, Twice}
+use Rattle.exh_words.specs.Causes.{◌>>=◌}
+use Rattle.exh_words.specs.Line.{UsedOption}
+use Rattle.exh_words.specs.Uses.{is_used, repeated, value_given}
 
 -- ---- what one says, or what holds where it isn't used
 
@@ -116,7 +95,7 @@ options_by uses = do
   is_from ← from_word (value_given From uses)
   when ← when_by (is_used New uses) (is_used Replace uses)
   format ← format_of_word (value_given Format uses)
-  Ok (record { wait = wait; form = record { is_hex = is_used Hex uses; is_raw = is_used Raw uses }; when = when; is_from = is_from; given = given; format = format; is_create = is_used Create uses; is_atomic = is_used Atomic uses; is_bare = is_used Bare uses; is_json = is_used Json uses })
+  Ok (record { wait = wait; form = record { is_hex = is_used Hex uses; is_raw = is_used Raw uses }; when = when; is_from = is_from; given = given; format = format; has_header = is_used Header uses; is_create = is_used Create uses; is_atomic = is_used Atomic uses; is_bare = is_used Bare uses; is_json = is_used Json uses })
 
 -- each option is used at most once
 abbrev pub once : Option CommandOption → Result Options WrongCause → Result Options WrongCause

@@ -1,35 +1,39 @@
 -- The request that the words of a command line ask for.
-use Rattle.std.specs.Prelude.{◌≡◌, ◌&&◌, ◌||◌, ⊤, ℕ, Bool, true, false, not, List, [], ◌∷◌, length, map, nat_lt, Option, Some, None, option_map, Result, Ok, Err, codes, if◌then◌else◌}
+use Rattle.std.specs.Prelude.{◌≡◌, ◌&&◌, ◌||◌, ⊤, ℕ, Bool, true, false, not, List, [], ◌∷◌, length, map, nat_lt, Option, Some, None, is_some, option_map, Result, Ok, Err, codes, if◌then◌else◌}
 use Rattle.std.specs.Str.{bytes_eq, is_utf8}
 use Rattle.exh_keyer.specs.declared.any_keyer.AnyKeyer.{AnyKeyer}
 use Rattle.exh_settings.specs.declared.file_settings.FileSettings.{FileSettings}
 use Rattle.exh_request.specs.declared.action.Action.{Action}
 use Rattle.exh_request.specs.declared.action.Action.TheVariants as actions
-use Rattle.exh_request.specs.declared.everyday_command.EverydayCommand.{EverydayCommand}
-use Rattle.exh_request.specs.declared.everyday_command.EverydayCommand.TheVariants.{Create, Get, Put, Del, Swap, Backup, Import, Export, Compact, Stats, Salvage}
-use Rattle.exh_request.specs.declared.command_option.CommandOption.TheVariants as option
+use Rattle.exh_words.specs.declared.everyday_command.EverydayCommand.{EverydayCommand}
+use Rattle.exh_words.specs.declared.everyday_command.EverydayCommand.TheVariants.{Create, Get, Put, Del, Swap, Backup, Import, Export, Compact, Stats, Salvage}
+use Rattle.exh_words.specs.declared.command_option.CommandOption.{CommandOption}
+use Rattle.exh_words.specs.declared.command_option.CommandOption.TheVariants as option
 use Rattle.exh_request.specs.declared.form.Form.{Form}
 use Rattle.exh_request.specs.declared.given_settings.GivenSettings.{GivenSettings}
 use Rattle.exh_request.specs.declared.import_words.ImportWords.{ImportWords}
+use Rattle.exh_request.specs.declared.given_texts.GivenTexts.{GivenTexts}
 use Rattle.exh_pair_text.specs.declared.pair_format.PairFormat.{PairFormat}
+use Rattle.exh_pair_text.specs.declared.pair_format.PairFormat.TheVariants.{Csv, Jsonl}
 use Rattle.exh_request.specs.declared.keys.Keys.{Keys}
 use Rattle.exh_request.specs.declared.keys.Keys.TheVariants as keys
 use Rattle.exh_request.specs.declared.new_value.NewValue.{NewValue}
 use Rattle.exh_request.specs.declared.new_value.NewValue.TheVariants as values
 use Rattle.exh_request.specs.declared.options.Options.{Options}
-use Rattle.exh_request.specs.declared.place.Place.{Place}
-use Rattle.exh_request.specs.declared.place.Place.TheVariants as at
+use Rattle.exh_words.specs.declared.place.Place.{Place}
+use Rattle.exh_words.specs.declared.place.Place.TheVariants as at
 use Rattle.exh_request.specs.declared.put_when.PutWhen.{PutWhen}
 use Rattle.exh_request.specs.declared.request.Request.{Request}
 use Rattle.exh_request.specs.declared.fault.RequestFault.{RequestFault}
 use Rattle.exh_request.specs.declared.fault.RequestFault.TheVariants as faults
-use Rattle.exh_request.specs.declared.wrong_request.WrongCause.{WrongCause}
-use Rattle.exh_request.specs.declared.wrong_request.WrongCause.TheVariants.{BadValue, Missing, PathNotText, RawKeys, SettingsOfNone, TooMany}
+use Rattle.exh_words.specs.declared.wrong_request.WrongCause.{WrongCause}
+use Rattle.exh_words.specs.declared.wrong_request.WrongCause.TheVariants.{BadValue, HeaderOfNone, Missing, NamesOfNone, OneName, PathNotText, RawKeys, SettingsOfNone, TooMany}
 use Rattle.exh_request.specs.Arguments.{key_asked, value_asked}
-use Rattle.exh_request.specs.Causes.{◌>>=◌}
-use Rattle.exh_request.specs.Commands.{command_named}
-use Rattle.exh_request.specs.Line.{PlacedWord, line_asked}
-use Rattle.exh_request.specs.Options.{is_given, new_settings, options_asked, value_given}
+use Rattle.exh_words.specs.Causes.{◌>>=◌}
+use Rattle.exh_words.specs.Commands.{command_named}
+use Rattle.exh_words.specs.Line.{PlacedWord, UsedOption, line_asked}
+use Rattle.exh_request.specs.Options.{is_given, new_settings, options_asked}
+use Rattle.exh_words.specs.Uses.{value_given}
 
 -- ---- what is asked for, with the texts of its paths
 
@@ -38,6 +42,12 @@ pub data KeysText : Type 0 where
   SeveralKeys : List (List ℕ) → KeysText
   InputKeys : KeysText
 
+-- the path of the file that names lines, and the names of a key's column and a value's
+pub record TextsGiven : Type 0 where
+  pub rejects : Option (List ℕ)
+  pub key : Option (List ℕ)
+  pub value : Option (List ℕ)
+
 pub data ActionText : Type 0 where
   Creating : FileSettings AnyKeyer → ActionText
   Getting : KeysText → ActionText
@@ -45,7 +55,7 @@ pub data ActionText : Type 0 where
   Deleting : KeysText → ActionText
   Swapping : List ℕ → List ℕ → List ℕ → ActionText
   Copying : List ℕ → ActionText
-  Importing : ImportWords → Option (List ℕ) → ActionText
+  Importing : ImportWords → TextsGiven → ActionText
   Exporting : PairFormat → Bool → ActionText
   Compacting : GivenSettings → ActionText
   Counting : Bool → ActionText
@@ -63,6 +73,13 @@ keys_text (keys.One key) = OneKey key
 keys_text (keys.Several several) = SeveralKeys several.items
 keys_text keys.Input = InputKeys
 
+abbrev pub texts_text : GivenTexts → TextsGiven
+texts_text texts = record {
+  rejects = option_map (λ path. path.now) texts.rejects;
+  key = option_map (λ name. name.now) texts.key;
+  value = option_map (λ name. name.now) texts.value;
+}
+
 abbrev pub action_text : Action → ActionText
 action_text (actions.Create settings) = Creating settings
 action_text (actions.Get which) = Getting (keys_text which)
@@ -70,7 +87,7 @@ action_text (actions.Put key value when) = Putting key value when
 action_text (actions.Del which) = Deleting (keys_text which)
 action_text (actions.Swap key old new) = Swapping key old new
 action_text (actions.Backup new) = Copying new.now
-action_text (actions.Import words rejects) = Importing words (option_map (λ path. path.now) rejects)
+action_text (actions.Import words texts) = Importing words (texts_text texts)
 action_text (actions.Export format bare) = Exporting format bare
 action_text (actions.Compact given) = Compacting given
 action_text (actions.Stats json) = Counting json
@@ -152,25 +169,47 @@ abbrev pub made_by : Options → Option (FileSettings AnyKeyer)
 made_by options = if options.is_create then Some (new_settings options.given) else None
 
 abbrev pub words_of : Options → ImportWords
-words_of options = record { format = options.format; is_atomic = options.is_atomic; create = made_by options }
+words_of options = record { format = options.format; has_header = options.has_header; is_atomic = options.is_atomic; create = made_by options }
 
-abbrev pub import_of : Options → Option (List ℕ) → Result ActionText WrongCause
-import_of options rejects =
+-- What is wrong with a header and with names, by whether these are given: a header is one of comma-separated fields, and names are
+-- those of its columns, of both or of none, or of the fields of objects.
+abbrev pub names_wrong : PairFormat → Bool → Bool → Bool → Option WrongCause
+names_wrong Jsonl false key value = None
+names_wrong Csv true true true = None
+names_wrong Csv true false false = None
+names_wrong Csv true key value = Some OneName
+names_wrong format true key value = Some HeaderOfNone
+names_wrong format false false false = None
+names_wrong format false key value = Some NamesOfNone
+
+abbrev pub unless : Option WrongCause → Result ActionText WrongCause → Result ActionText WrongCause
+unless None asked = asked
+unless (Some cause) asked = Err cause
+
+abbrev pub import_of : Options → TextsGiven → Result ActionText WrongCause
+import_of options texts =
     if is_given options.given && not options.is_create then Err SettingsOfNone
-    else Ok (Importing (words_of options) rejects)
+    else unless (names_wrong options.format options.has_header (is_some texts.key) (is_some texts.value)) (Ok (Importing (words_of options) texts))
 
-abbrev pub import_asked : Options → Option (List ℕ) → List PlacedWord → Result ActionText WrongCause
-import_asked options rejects [] = import_of options rejects
-import_asked options rejects (one ∷ rest) = Err TooMany
+abbrev pub import_asked : Options → TextsGiven → List PlacedWord → Result ActionText WrongCause
+import_asked options texts [] = import_of options texts
+import_asked options texts (one ∷ rest) = Err TooMany
 
--- the path of the file that names lines
-abbrev pub rejects_by : Result (List ℕ) WrongCause → Result (Option (List ℕ)) WrongCause
-rejects_by (Ok path) = Ok (Some path)
-rejects_by (Err cause) = Err (BadValue option.Rejects)
+-- the text that is an option's value
+abbrev pub text_by : CommandOption → Result (List ℕ) WrongCause → Result (Option (List ℕ)) WrongCause
+text_by option (Ok text) = Ok (Some text)
+text_by option (Err cause) = Err (BadValue option)
 
-abbrev pub rejects_asked : Option (List ℕ) → Result (Option (List ℕ)) WrongCause
-rejects_asked None = Ok None
-rejects_asked (Some word) = rejects_by (path_asked at.Path word)
+abbrev pub text_asked : CommandOption → Option (List ℕ) → Result (Option (List ℕ)) WrongCause
+text_asked option None = Ok None
+text_asked option (Some word) = text_by option (path_asked at.Path word)
+
+abbrev pub texts_asked : List UsedOption → Result TextsGiven WrongCause
+texts_asked uses = do
+  rejects ← text_asked option.Rejects (value_given option.Rejects uses)
+  key ← text_asked option.Key (value_given option.Key uses)
+  value ← text_asked option.Value (value_given option.Value uses)
+  Ok (record { rejects = rejects; key = key; value = value })
 
 abbrev pub export_asked : Options → List PlacedWord → Result ActionText WrongCause
 export_asked options [] = Ok (Exporting options.format options.is_bare)
@@ -188,36 +227,36 @@ abbrev pub salvage_asked : Options → List PlacedWord → Result ActionText Wro
 salvage_asked options [] = Ok (Salvaging options.format options.is_bare)
 salvage_asked options (one ∷ rest) = Err TooMany
 
--- what the command does, by the path of a file that names lines, and the words behind its own path
-abbrev pub action_asked : EverydayCommand → Options → Option (List ℕ) → List PlacedWord → Result ActionText WrongCause
-action_asked Create options rejects places = create_asked options places
-action_asked Get options rejects places = keys_asked options places >>= λ which. Ok (Getting which)
-action_asked Put options rejects places = put_asked options places
-action_asked Del options rejects places = keys_asked options places >>= λ which. Ok (Deleting which)
-action_asked Swap options rejects places = swap_asked options.form.is_hex places
-action_asked Backup options rejects places = backup_asked places
-action_asked Import options rejects places = import_asked options rejects places
-action_asked Export options rejects places = export_asked options places
-action_asked Compact options rejects places = compact_asked options places
-action_asked Stats options rejects places = stats_asked options places
-action_asked Salvage options rejects places = salvage_asked options places
+-- what the command does, by the texts that options give, and the words behind its path
+abbrev pub action_asked : EverydayCommand → Options → TextsGiven → List PlacedWord → Result ActionText WrongCause
+action_asked Create options texts places = create_asked options places
+action_asked Get options texts places = keys_asked options places >>= λ which. Ok (Getting which)
+action_asked Put options texts places = put_asked options places
+action_asked Del options texts places = keys_asked options places >>= λ which. Ok (Deleting which)
+action_asked Swap options texts places = swap_asked options.form.is_hex places
+action_asked Backup options texts places = backup_asked places
+action_asked Import options texts places = import_asked options texts places
+action_asked Export options texts places = export_asked options places
+action_asked Compact options texts places = compact_asked options places
+action_asked Stats options texts places = stats_asked options places
+action_asked Salvage options texts places = salvage_asked options places
 
 -- ---- the words behind a command
 
 -- the path is the first word at a place
-abbrev pub request_at : EverydayCommand → Options → Option (List ℕ) → List PlacedWord → Result RequestText WrongCause
-request_at command options rejects [] = Err (Missing at.Path)
-request_at command options rejects (path ∷ places) = do
+abbrev pub request_at : EverydayCommand → Options → List UsedOption → List PlacedWord → Result RequestText WrongCause
+request_at command options uses [] = Err (Missing at.Path)
+request_at command options uses (path ∷ places) = do
   name ← path_asked at.Path path.word
-  file ← rejects_asked rejects
-  action ← action_asked command options file places
+  texts ← texts_asked uses
+  action ← action_asked command options texts places
   Ok (record { path = name; action = action; wait = options.wait; form = options.form })
 
 unfoldable pub request_behind : EverydayCommand → List (List ℕ) → Result RequestText WrongCause
 request_behind command words = do
   line ← line_asked command words
   options ← options_asked line.uses
-  request_at command options (value_given option.Rejects line.uses) line.places
+  request_at command options line.uses line.places
 
 -- `--help` or `-h` before a `--` asks for help
 abbrev pub is_help : List ℕ → Bool

@@ -1,6 +1,6 @@
 //! What a request is to do.
 
-use crate::{GivenSettings, ImportWords, Keys, NewValue, PutWhen};
+use crate::{GivenSettings, GivenTexts, ImportWords, Keys, NewValue, PutWhen};
 use exh_keyer::AnyKeyer;
 use exh_page::{Key, Value};
 use exh_pair_text::PairFormat;
@@ -34,8 +34,7 @@ pub enum Action<'w> {
     /// Put the pairs of standard input in.
     Import {
         words: ImportWords,
-        /// The path of the new file that names lines that aren't put in, by `--rejects`.
-        rejects: Option<&'w str>,
+        texts: GivenTexts<'w>,
     },
     /// Print its pairs.
     Export {

@@ -1,19 +1,18 @@
 //! The request that words ask for.
-ghost use Rattle.std.specs.Prelude.{◌≡◌, map, option_map, IfOk, IfErr};
-ghost use Rattle.exh_request.specs.Causes.{IsCauseOf};
-ghost use Rattle.exh_request.specs.Line.{placed_word};
-ghost use Rattle.exh_request.specs.Request.{IsAnswered, action_asked, action_text, ask_for_help, backup_asked, called, compact_asked, create_asked, export_asked, help_of, import_asked, is_help, keys_asked, keys_text, new_value_asked, put_asked, put_of, rejects_asked, request_behind, request_text, salvage_asked, several_asked, stats_asked, swap_asked, swap_of, words_of};
+ghost use Rattle.std.specs.Prelude.{◌≡◌, is_some, map, option_map, IfOk, IfErr};
+ghost use Rattle.exh_words.specs.Causes.{IsCauseOf};
+ghost use Rattle.exh_words.specs.Line.{placed_word, used_option};
+ghost use Rattle.exh_request.specs.Request.{IsAnswered, action_asked, action_text, ask_for_help, backup_asked, called, compact_asked, create_asked, export_asked, help_of, import_asked, import_of, is_help, keys_asked, keys_text, names_wrong, new_value_asked, put_asked, put_of, request_behind, request_text, salvage_asked, several_asked, stats_asked, swap_asked, swap_of, text_asked, texts_asked, texts_text, words_of};
 
 use crate::argument::{key_of, path_of, value_of};
-use crate::cause_or_memory::CauseOrMemory;
-use crate::line::{Line, Placed};
 use crate::options::Options;
-use crate::word::is_word;
-use crate::{
-    Action, CommandOption, EverydayCommand, ImportWords, Keys, NewValue, Place, Request,
-    RequestFault, WrongCause, WrongRequest,
-};
+use crate::{Action, GivenTexts, ImportWords, Keys, NewValue, Request, RequestFault};
 use exh_page::Key;
+use exh_pair_text::PairFormat;
+use exh_words::{
+    CauseOrMemory, CommandOption, EverydayCommand, Line, Place, Placed, WrongCause, WrongRequest,
+    is_word,
+};
 use std::alloc::Global;
 
 /// The request that the words of a command line ask for, of which the first is the program's name: `None` where they call no
@@ -98,8 +97,8 @@ fn request_by<'w>(
         return Err(CauseOrMemory::Wrong(WrongCause::Missing(Place::Path)));
     };
     let path = path_of(path.word, Place::Path)?;
-    let rejects = rejects_of(line.value(CommandOption::Rejects))?;
-    let action = action_of(alloc, command, places, &options, rejects)?;
+    let texts = texts_of(&line)?;
+    let action = action_of(alloc, command, places, &options, &texts)?;
     Ok(Request {
         path,
         action,
@@ -108,30 +107,46 @@ fn request_by<'w>(
     })
 }
 
-// The path of the file that names lines.
-fn rejects_of(word: Option<&[u8]>) -> Result<Option<&str>, WrongCause>
-    ensures ok { IfOk result (λ path. rejects_asked (option_map (λ word. word.now) word.entry) ≡ Ok (option_map (λ path. path.now) path)) }
-    ensures wrong { IfErr result (λ cause. rejects_asked (option_map (λ word. word.now) word.entry) ≡ Err cause) }
+// The texts that options give.
+#[tactic(auto, using(crate::proofs::Causes::first_wrong, crate::proofs::Causes::wrong_behind, crate::proofs::Causes::then_is))]
+fn texts_of<'w>(line: &Line<'w>) -> Result<GivenTexts<'w>, CauseOrMemory>
+    ensures ok { IfOk result (λ texts. texts_asked (map used_option line.now.uses.items) ≡ Ok (texts_text texts)) }
+    ensures wrong { IfErr result (IsCauseOf (texts_asked (map used_option line.now.uses.items))) }
+{
+    let rejects = text_of(CommandOption::Rejects, line.value(CommandOption::Rejects))?;
+    let key = text_of(CommandOption::Key, line.value(CommandOption::Key))?;
+    let value = text_of(CommandOption::Value, line.value(CommandOption::Value))?;
+    Ok(GivenTexts {
+        rejects,
+        key,
+        value,
+    })
+}
+
+// The text that is an option's value.
+fn text_of(option: CommandOption, word: Option<&[u8]>) -> Result<Option<&str>, WrongCause>
+    ensures ok { IfOk result (λ text. text_asked option (option_map (λ word. word.now) word.entry) ≡ Ok (option_map (λ text. text.now) text)) }
+    ensures wrong { IfErr result (λ cause. text_asked option (option_map (λ word. word.now) word.entry) ≡ Err cause) }
 {
     let Some(word) = word else {
         return Ok(None);
     };
     match path_of(word, Place::Path) {
-        Ok(path) => Ok(Some(path)),
-        Err(_) => Err(WrongCause::BadValue(CommandOption::Rejects)),
+        Ok(text) => Ok(Some(text)),
+        Err(_) => Err(WrongCause::BadValue(option)),
     }
 }
 
-// What a command does, by the path of a file that names lines, and the words behind its own path.
+// What a command does, by the texts that options give, and the words behind its path.
 fn action_of<'w>(
     alloc: Global,
     command: EverydayCommand,
     places: &[Placed<'w>],
     options: &Options,
-    rejects: Option<&'w str>,
+    texts: &GivenTexts<'w>,
 ) -> Result<Action<'w>, CauseOrMemory>
-    ensures ok { IfOk result (λ done. action_asked command options.now (option_map (λ path. path.now) rejects.entry) (map placed_word places.now) ≡ Ok (action_text done)) }
-    ensures wrong { IfErr result (IsCauseOf (action_asked command options.now (option_map (λ path. path.now) rejects.entry) (map placed_word places.now))) }
+    ensures ok { IfOk result (λ done. action_asked command options.now (texts_text texts.now) (map placed_word places.now) ≡ Ok (action_text done)) }
+    ensures wrong { IfErr result (IsCauseOf (action_asked command options.now (texts_text texts.now) (map placed_word places.now))) }
 {
     match command {
         EverydayCommand::Create => create(places, options),
@@ -140,7 +155,7 @@ fn action_of<'w>(
         EverydayCommand::Del => Ok(Action::Del(keys(alloc, places, options)?)),
         EverydayCommand::Swap => swap(alloc, places, options.form.is_hex),
         EverydayCommand::Backup => backup(places),
-        EverydayCommand::Import => import(places, options, rejects),
+        EverydayCommand::Import => import(places, options, texts),
         EverydayCommand::Export => export(places, options),
         EverydayCommand::Compact => compact(places, options),
         EverydayCommand::Stats => stats(places, options),
@@ -171,24 +186,54 @@ fn backup<'w>(places: &[Placed<'w>]) -> Result<Action<'w>, CauseOrMemory>
     }
 }
 
-// Settings are those of a file that is made.
 fn import<'w>(
     places: &[Placed<'w>],
     options: &Options,
-    rejects: Option<&'w str>,
+    texts: &GivenTexts<'w>,
 ) -> Result<Action<'w>, CauseOrMemory>
-    ensures ok { IfOk result (λ done. import_asked options.now (option_map (λ path. path.now) rejects.entry) (map placed_word places.now) ≡ Ok (action_text done)) }
-    ensures wrong { IfErr result (IsCauseOf (import_asked options.now (option_map (λ path. path.now) rejects.entry) (map placed_word places.now))) }
+    ensures ok { IfOk result (λ done. import_asked options.now (texts_text texts.now) (map placed_word places.now) ≡ Ok (action_text done)) }
+    ensures wrong { IfErr result (IsCauseOf (import_asked options.now (texts_text texts.now) (map placed_word places.now))) }
 {
     match places {
-        [] if options.given.is_some() && !options.is_create => {
-            Err(CauseOrMemory::Wrong(WrongCause::SettingsOfNone))
-        }
-        [] => Ok(Action::Import {
-            words: import_words(options),
-            rejects,
-        }),
+        [] => import_of(options, texts),
         _ => Err(CauseOrMemory::Wrong(WrongCause::TooMany)),
+    }
+}
+
+// Settings are those of a file that is made.
+fn import_of<'w>(options: &Options, texts: &GivenTexts<'w>) -> Result<Action<'w>, CauseOrMemory>
+    ensures ok { IfOk result (λ done. import_of options.now (texts_text texts.now) ≡ Ok (action_text done)) }
+    ensures wrong { IfErr result (IsCauseOf (import_of options.now (texts_text texts.now))) }
+{
+    if options.given.is_some() && !options.is_create {
+        return Err(CauseOrMemory::Wrong(WrongCause::SettingsOfNone));
+    }
+    match names_wrong(options, texts) {
+        Some(cause) => Err(CauseOrMemory::Wrong(cause)),
+        None => Ok(Action::Import {
+            words: import_words(options),
+            texts: *texts,
+        }),
+    }
+}
+
+// What is wrong with a header and with the names of columns and fields.
+fn names_wrong(options: &Options, texts: &GivenTexts<'_>) -> Option<WrongCause>
+    ensures { result ≡ names_wrong options.now.format options.now.has_header (is_some texts.now.key) (is_some texts.now.value) }
+{
+    match (
+        options.format,
+        options.has_header,
+        texts.key.is_some(),
+        texts.value.is_some(),
+    ) {
+        (PairFormat::Jsonl, false, _, _)
+        | (PairFormat::Csv, true, true, true)
+        | (PairFormat::Csv, true, false, false) => None,
+        (PairFormat::Csv, true, _, _) => Some(WrongCause::OneName),
+        (_, true, _, _) => Some(WrongCause::HeaderOfNone),
+        (_, false, false, false) => None,
+        (_, false, _, _) => Some(WrongCause::NamesOfNone),
     }
 }
 
@@ -198,6 +243,7 @@ fn import_words(options: &Options) -> ImportWords
 {
     ImportWords {
         format: options.format,
+        has_header: options.has_header,
         is_atomic: options.is_atomic,
         create: if options.is_create {
             Some(options.given.of_new())

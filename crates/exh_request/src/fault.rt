@@ -1,6 +1,6 @@
 //! Why words give no request.
 
-use crate::WrongRequest;
+use exh_words::WrongRequest;
 use std::alloc::AllocError;
 use thiserror::Error;
 

@@ -9,6 +9,8 @@ use exh_settings::FileSettings;
 pub struct ImportWords {
     /// How they stand there.
     pub format: PairFormat,
+    /// Behind a record that names the columns, by `--header`.
+    pub has_header: bool,
     /// All of them or none, by `--atomic`.
     pub is_atomic: bool,
     /// The settings of the file that is made where none is, by `--create`.

@@ -1,18 +1,19 @@
 //! What the options of a command say.
 
 ghost use Rattle.std.specs.Prelude.{◌≡◌, ◌≤◌, map, IfOk, IfSome};
-ghost use Rattle.exh_request.specs.Line.{used_option};
-ghost use Rattle.exh_request.specs.Options.{format_of_word, from_word, given_asked, is_used, keyer_of_word, number_asked, number_given, options_asked, value_given, when_by};
-ghost use Rattle.exh_request.specs.declared.command_option.CommandOption.TheVariants.{Format, From, Keyer, New, Replace};
+ghost use Rattle.exh_words.specs.Line.{used_option};
+ghost use Rattle.exh_request.specs.Options.{format_of_word, from_word, given_asked, keyer_of_word, number_asked, number_given, options_asked, when_by};
+ghost use Rattle.exh_words.specs.Uses.{is_used, value_given};
+ghost use Rattle.exh_words.specs.declared.command_option.CommandOption.TheVariants.{Format, From, Keyer, New, Replace};
 
-use crate::line::Line;
-use crate::{CommandOption, Form, GivenSettings, PutWhen, WrongCause};
+use crate::{Form, GivenSettings, PutWhen};
 use exh_keyer::AnyKeyer;
 use exh_page::CAP_LIMIT;
 use exh_pair_text::PairFormat;
 use exh_prefix::WARD_BITS_LIMIT;
 use exh_settings::keyer_named;
 use exh_text::parse_u32;
+use exh_words::{CommandOption, Line, WrongCause};
 
 /// How many seconds another process is waited for, where no option says it.
 pub const USUAL_WAIT: u32 = 5;
@@ -30,6 +31,8 @@ pub(crate) struct Options {
     pub(crate) is_from: bool,
     pub(crate) given: GivenSettings,
     pub(crate) format: PairFormat,
+    /// Whether a record stands before the others that names the columns.
+    pub(crate) has_header: bool,
     /// Whether a file is made where none is.
     pub(crate) is_create: bool,
     /// Whether all pairs are put in or none.
@@ -64,6 +67,7 @@ impl Options {
             is_from,
             given,
             format,
+            has_header: line.uses(CommandOption::Header),
             is_create: line.uses(CommandOption::Create),
             is_atomic: line.uses(CommandOption::Atomic),
             is_bare: line.uses(CommandOption::Bare),

@@ -1,6 +1,6 @@
 //! The program's own words.
 
-use crate::EverydayCommand;
+use exh_words::EverydayCommand;
 use std::alloc::AllocError;
 use std::env::{Env, FillError};
 

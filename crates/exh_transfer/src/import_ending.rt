@@ -9,6 +9,8 @@ use crate::outcome::Outcome;
 use exh_answer::Status;
 use exh_import::{ImportFault, Imported};
 use exh_notes::Escaped;
+use exh_pair_text::{Field, WrongHeader};
+use exh_request::GivenTexts;
 use exh_run::{Run, made_status, refuse_change, tell_text};
 use exh_stream::Output;
 use exh_system::{INPUT, Reason};
@@ -17,9 +19,10 @@ use exhash::StoreError;
 use std::alloc::{AllocError, Global};
 use std::io::Write;
 
-/// Ends an import by what it came to, and why standard input wasn't read, if it wasn't.
+/// Ends an import that was asked for so by what it came to, and why standard input wasn't read, if it wasn't.
 pub(crate) fn end_import<W: Write>(
     run: &Run<'_>,
+    texts: &GivenTexts<'_>,
     outcome: Outcome,
     reason: &Reason,
     output: &mut Output<'_, W>,
@@ -36,7 +39,7 @@ pub(crate) fn end_import<W: Write>(
     } = outcome;
     match imported {
         Ok(done) => end_done(run, &done, is_made, is_unwritten, output),
-        Err(refusal) => refuse_import(run, refusal, is_made, reason),
+        Err(refusal) => refuse_import(run, texts, refusal, is_made, reason),
     }
 }
 
@@ -132,7 +135,13 @@ fn lines_of(done: &Imported) -> u64
 }
 
 // Says why an import ended before its end, and gives the status with which the program ends.
-fn refuse_import(run: &Run<'_>, refusal: ImportRefusal, is_made: bool, reason: &Reason) -> Status
+fn refuse_import(
+    run: &Run<'_>,
+    texts: &GivenTexts<'_>,
+    refusal: ImportRefusal,
+    is_made: bool,
+    reason: &Reason,
+) -> Status
     ensures { result ≡ unimported_status refusal }
 {
     match refusal {
@@ -142,7 +151,7 @@ fn refuse_import(run: &Run<'_>, refusal: ImportRefusal, is_made: bool, reason: &
             made_status(&Err(fault))
         }
         ImportRefusal::Text { fault, pairs } => {
-            tell_fault(run, &fault, reason);
+            tell_fault(run, texts, &fault, reason);
             tell_pairs(run, pairs, is_made);
             Status::Refused
         }
@@ -174,15 +183,42 @@ fn tell_pairs(run: &Run<'_>, pairs: u64, is_made: bool) {
 }
 
 // Says why a text isn't imported to its end.
-fn tell_fault(run: &Run<'_>, fault: &ImportFault, reason: &Reason) {
+fn tell_fault(run: &Run<'_>, texts: &GivenTexts<'_>, fault: &ImportFault, reason: &Reason) {
     match fault {
         ImportFault::Memory => {
             let _ = eprintln!(run.rt; "exhash: {INPUT}: out of memory (refused 10)");
         }
         ImportFault::Read => tell_unread(run, reason),
+        ImportFault::Header(wrong) => tell_header(run, texts, wrong),
         _ => {
             let _ = eprintln!(run.rt; "exhash: {INPUT}: {fault}");
         }
+    }
+}
+
+// Says why a header gives no columns.
+fn tell_header(run: &Run<'_>, texts: &GivenTexts<'_>, wrong: &WrongHeader) {
+    let _ = match wrong {
+        WrongHeader::NoColumn(field) => {
+            let name = Escaped(name_of(texts, *field));
+            eprintln!(run.rt; "exhash: {INPUT}: the header has no column `{name}`")
+        }
+        WrongHeader::TwoColumns(field) => {
+            let name = Escaped(name_of(texts, *field));
+            eprintln!(run.rt; "exhash: {INPUT}: the header has more than one column `{name}`")
+        }
+        WrongHeader::NotTwo { count } => eprintln!(run.rt;
+            "exhash: {INPUT}: 2 columns are wanted without --key and --value, and the header has {count}"
+        ),
+        WrongHeader::NoRecord(wrong) => eprintln!(run.rt; "exhash: {INPUT}: the header: {wrong}"),
+    };
+}
+
+// The name of a key's column, or of a value's.
+fn name_of<'w>(texts: &GivenTexts<'w>, field: Field) -> &'w str {
+    match field {
+        Field::Key => texts.key.unwrap_or_default(),
+        Field::Value => texts.value.unwrap_or_default(),
     }
 }
 

@@ -1,5 +1,6 @@
 //! The run of an import.
-ghost use Rattle.std.specs.Prelude.{◌≡◌, [], IsFalse};
+ghost use Rattle.std.specs.Prelude.{◌≡◌, [], IsFalse, OnOk};
+ghost use Rattle.exh_import.specs.LineReader.{EndsRight, waiting};
 ghost use Rattle.exh_stream.specs.Output.{SameWriter, held, pending, writer_failed};
 ghost use Rattle.exh_transfer.specs.Imports.{ImportEnds};
 
@@ -10,17 +11,18 @@ use crate::pair_store::PairStore;
 use crate::rejected::Rejected;
 use crate::rejects_file::RejectsFile;
 use exh_answer::Status;
-use exh_import::{ImportFault, ImportOptions, Imported, LineReader};
+use exh_import::{Begun, Heading, ImportFault, ImportOptions, Imported, LineReader, take_heading};
 use exh_notes::ReasonReader;
-use exh_request::ImportWords;
+use exh_pair_text::{Columns, FieldNames, Layout};
+use exh_request::{GivenTexts, ImportWords};
 use exh_run::{Run, tell_refused};
 use exh_stream::Output;
 use exh_system::Reason;
 use exhash::{Settings, Store, StoreError, make};
 use std::cell::Cell;
-use std::io::Write;
+use std::io::{Read, Write};
 
-// How many pairs are put in between two commits.
+// Behind how many pairs the first commit comes; behind each other one at least as many come as it has in the file.
 const BATCH: u64 = 16_384;
 
 /// Puts the pairs of standard input into the page file, line by line. Lines that aren't put in are named on standard error, or
@@ -28,7 +30,7 @@ const BATCH: u64 = 16_384;
 pub fn import<W: Write>(
     run: &Run<'_>,
     words: &ImportWords,
-    rejects: Option<&str>,
+    texts: &GivenTexts<'_>,
     output: &mut Output<'_, W>,
 ) -> Status
     requires open { IsFalse (writer_failed output.old) }
@@ -37,22 +39,22 @@ pub fn import<W: Write>(
     ensures ends { ImportEnds (held W.contents output.old) (held W.contents output.new) (writer_failed output.new) result }
 {
     let reason = Cell::new(None);
-    let outcome = outcome_of(run, words, rejects, &reason);
-    end_import(run, outcome, &reason, output)
+    let outcome = outcome_of(run, words, texts, &reason);
+    end_import(run, texts, outcome, &reason, output)
 }
 
 // What an import comes to.
 fn outcome_of(
     run: &Run<'_>,
     words: &ImportWords,
-    rejects: Option<&str>,
+    texts: &GivenTexts<'_>,
     reason: &Reason,
 ) -> Outcome {
     let (store, is_made) = match store_at(run, words.create) {
         Ok(opened) => opened,
         Err(fault) => return refused(ImportRefusal::Unopened(fault), false),
     };
-    let file = match rejects_at(run, rejects) {
+    let file = match rejects_at(run, texts.rejects) {
         Ok(file) => file,
         Err(fault) => return refused(ImportRefusal::Unmade(fault), is_made),
     };
@@ -62,7 +64,7 @@ fn outcome_of(
         named: 0,
         has_failed: false,
     };
-    let imported = imported(run, words, store, &mut rejected, reason);
+    let imported = imported(run, words, texts, store, &mut rejected, reason);
     rejected.tell_named();
     Outcome {
         imported,
@@ -84,22 +86,73 @@ fn refused(refusal: ImportRefusal, is_made: bool) -> Outcome {
 fn imported(
     run: &Run<'_>,
     words: &ImportWords,
+    texts: &GivenTexts<'_>,
     store: Store<'_>,
     rejected: &mut Rejected<'_, '_, '_>,
     reason: &Reason,
 ) -> Result<Imported, ImportRefusal> {
     let mut pairs = PairStore::new(run, store);
-    let options = ImportOptions {
-        format: words.format,
-        is_hex: run.form.is_hex,
-        is_atomic: words.is_atomic,
-        batch: BATCH,
-    };
     let mut reader = ReasonReader::new(run.rt.reader(), reason);
     let mut lines = LineReader::new(run.rt.alloc(), &mut reader);
-    match exh_import::import(run.rt.alloc(), &mut lines, &mut pairs, options, rejected) {
+    let heading = match heading_of(run, words, texts, &mut lines) {
+        Ok(heading) => heading,
+        Err(fault) => return Err(refusal_of(fault, pairs)),
+    };
+    let options = options_of(run, words, texts, heading);
+    match exh_import::import(run.rt.alloc(), &mut lines, &mut pairs, &options, rejected) {
         Ok(done) => Ok(done),
         Err(fault) => Err(refusal_of(fault, pairs)),
+    }
+}
+
+// What stands before the pairs of standard input: a header, if one is to stand there.
+fn heading_of<R: Read>(
+    run: &Run<'_>,
+    words: &ImportWords,
+    texts: &GivenTexts<'_>,
+    lines: &mut LineReader<'_, R>,
+) -> Result<Heading, ImportFault>
+    requires ends { EndsRight R.remaining lines.old }
+    requires fresh { waiting lines.old ≡ [] }
+    ensures ends { OnOk result (EndsRight R.remaining lines.new) }
+{
+    if !words.has_header {
+        return Ok(Heading {
+            begun: Begun::NOTHING,
+            columns: Columns::two(),
+        });
+    }
+    lines.pass_mark()?;
+    match (texts.key, texts.value) {
+        (Some(key), Some(value)) => {
+            take_heading(run.rt.alloc(), lines, Some(&FieldNames { key, value }))
+        }
+        _ => take_heading(run.rt.alloc(), lines, None),
+    }
+}
+
+// How the pairs behind a heading are imported.
+fn options_of<'n>(
+    run: &Run<'_>,
+    words: &ImportWords,
+    texts: &GivenTexts<'n>,
+    heading: Heading,
+) -> ImportOptions<'n> {
+    let usual = Layout::usual().names;
+    let names = FieldNames {
+        key: texts.key.unwrap_or(usual.key),
+        value: texts.value.unwrap_or(usual.value),
+    };
+    ImportOptions {
+        format: words.format,
+        is_hex: run.form.is_hex,
+        layout: Layout {
+            columns: heading.columns,
+            names,
+        },
+        begun: heading.begun,
+        is_atomic: words.is_atomic,
+        batch: BATCH,
     }
 }
 

@@ -19,16 +19,16 @@ lines-init g c =
     let T = g.L.Rejects.told in
     let R = g.R.Read.remaining in
     let known = text_left R c.args.lines.now in
-    let start : Point g.row.S.Denot g.row.L.Denot = record { taking = starts c.args.options; store = c.args.store.now; listener = c.args.listener.now } in
+    let start : Point g.row.S.Denot g.row.L.Denot = record { taking = starts c.args.options.now; store = c.args.store.now; listener = c.args.listener.now } in
     let now = c.is_over.new.self in
     let kept = c.in_ok-is_over.ensures.text in
     record {
       same_reader = c.in_ok-is_over.ensures.same_reader;
       ends = c.in_ok-is_over.ensures.ends;
-      over = λ is. subst (λ (t : Taking). IsWhole G V W T c.args.options.format R known start (record { taking = t; store = c.args.store.now; listener = c.args.listener.now })) (sym c.new-taking.ensures) (whole_start G V W T c.args.options.format R known start now kept c.in_ok-is_over.ensures.ends (c.in_ok-is_over.ensures.over is));
+      over = λ is. subst (λ (t : Taking). IsWhole G V W T c.args.options.now.format R known start (record { taking = t; store = c.args.store.now; listener = c.args.listener.now })) (sym c.new-taking.ensures) (whole_start G V W T c.args.options.now.format R known start now kept c.in_ok-is_over.ensures.ends (c.in_ok-is_over.ensures.over is));
       amid = λ is. (
         c.in_ok-is_over.ensures.some is,
-        subst (λ (t : Taking). (amid : IsAmid G V W T c.args.options.format R known start now (record { taking = t; store = c.args.store.now; listener = c.args.listener.now })) × (length amid.front ≡ 0)) (sym c.new-taking.ensures) (amid_none G V W T c.args.options.format R known start now kept),
+        subst (λ (t : Taking). (amid : IsAmid G V W T c.args.options.now.format R known start now (record { taking = t; store = c.args.store.now; listener = c.args.listener.now })) × (length amid.front ≡ 0)) (sym c.new-taking.ensures) (amid_none G V W T c.args.options.now.format R known start now kept),
       );
     }
 
@@ -45,7 +45,7 @@ returns-then-is_over-clause-pairs g c =
       whole.lines,
       (
         whole.text,
-        imports_put g.S.ImportedStore.gives g.S.ImportedStore.saves g.S.ImportedStore.rests g.L.Rejects.told c.args.options c.args.store.now c.args.listener.now whole.lines imported c.finish.new.store c.lines.listener
+        imports_put g.S.ImportedStore.gives g.S.ImportedStore.saves g.S.ImportedStore.rests g.L.Rejects.told c.args.options.now c.args.store.now c.args.listener.now whole.lines imported c.finish.new.store c.lines.listener
             (record { next = record { taking = c.lines.taking; store = c.lines.store; listener = c.lines.listener }; takes = whole.takes; finishes = finishes; listener_is = refl }),
       ),
     ))
@@ -63,7 +63,7 @@ returns-then-is_over-2-clause-pairs g c =
       whole.lines,
       (
         whole.text,
-        imports_put g.S.ImportedStore.gives g.S.ImportedStore.saves g.S.ImportedStore.rests g.L.Rejects.told c.args.options c.args.store.now c.args.listener.now whole.lines imported c.finish-then-is_over-2.new.store c.lines.listener
+        imports_put g.S.ImportedStore.gives g.S.ImportedStore.saves g.S.ImportedStore.rests g.L.Rejects.told c.args.options.now c.args.store.now c.args.listener.now whole.lines imported c.finish-then-is_over-2.new.store c.lines.listener
             (record { next = record { taking = c.lines.taking; store = c.lines.store; listener = c.lines.listener }; takes = whole.takes; finishes = finishes; listener_is = refl }),
       ),
     ))
@@ -78,8 +78,8 @@ returns-in_err-is_over-2-clause-cause g c =
     let store = c.take_next.new.store in
     let fault = c.in_err-is_over-2.field-0.0 in
     let now : Point g.row.S.Denot g.row.L.Denot = record { taking = c.lines.taking; store = c.lines.store; listener = c.lines.listener } in
-    err_as c.from_residual-in_err-is_over-2.result fault (IsCause F c.args.options known new store) c.from_residual-in_err-is_over-2.ensures.1
-    (next_cause g.S.ImportedStore.gives g.S.ImportedStore.saves g.S.ImportedStore.rests F g.L.Rejects.told R known c.args.options c.args.store.now c.args.listener.now c.lines.lines new now store fault
+    err_as c.from_residual-in_err-is_over-2.result fault (IsCause F c.args.options.now known new store) c.from_residual-in_err-is_over-2.ensures.1
+    (next_cause g.S.ImportedStore.gives g.S.ImportedStore.saves g.S.ImportedStore.rests F g.L.Rejects.told R known c.args.options.now c.args.store.now c.args.listener.now c.lines.lines new now store fault
     (c.lines.invariant.amid c.if-is_over.false).1.0 c.in_err-is_over-2.ensures.cause)
 
 pub take_next-requires-clause-ends : goal.take_next-requires-clause-ends
@@ -96,7 +96,7 @@ lines-preserved g c =
     let T = g.L.Rejects.told in
     let R = g.R.Read.remaining in
     let known = text_left R c.args.lines.now in
-    let start : Point g.row.S.Denot g.row.L.Denot = record { taking = starts c.args.options; store = c.args.store.now; listener = c.args.listener.now } in
+    let start : Point g.row.S.Denot g.row.L.Denot = record { taking = starts c.args.options.now; store = c.args.store.now; listener = c.args.listener.now } in
     let old = c.lines.lines in
     let new = c.take_next.new.lines in
     let now : Point g.row.S.Denot g.row.L.Denot = record { taking = c.lines.taking; store = c.lines.store; listener = c.lines.listener } in
@@ -106,9 +106,9 @@ lines-preserved g c =
     record {
       same_reader = told.same_reader ∙ c.lines.invariant.same_reader;
       ends = told.ends;
-      over = λ is. whole_step G V W T c.args.options.format R known start old new now next amid told.next told.ends (told.over is) (subst (λ b. TakesLine G V W T b new.line.items now next) is told.taken);
+      over = λ is. whole_step G V W T c.args.options.now.format R known start old new now next amid told.next told.ends (told.over is) (subst (λ b. TakesLine G V W T b new.line.items now next) is told.taken);
       amid = λ is. (
         told.some is,
-        amid_more G V W T c.args.options.format R known start old new now next amid c.lines._line (c.lines.invariant.amid c.if-is_over.false).1.1 told.next (λ over. told.some is over.taken) (subst (λ b. TakesLine G V W T b new.line.items now next) is told.taken),
+        amid_more G V W T c.args.options.now.format R known start old new now next amid c.lines._line (c.lines.invariant.amid c.if-is_over.false).1.1 told.next (λ over. told.some is over.taken) (subst (λ b. TakesLine G V W T b new.line.items now next) is told.taken),
       );
     }

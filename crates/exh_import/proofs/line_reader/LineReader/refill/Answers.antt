@@ -37,3 +37,15 @@ returns-clause-line g c = refl
 
 pub returns-clause-same_reader : goal.returns-clause-same_reader
 returns-clause-same_reader g c = c.fill.ensures.same_reader
+
+pub returns-in_err-count-clause-start : goal.returns-in_err-count-clause-start
+returns-in_err-count-clause-start g c = IfOk-from_err c.from_residual.result _ c.from_residual.ensures.0
+
+pub returns-in_err-count-clause-full : goal.returns-in_err-count-clause-full
+returns-in_err-count-clause-full g c = IfOk-from_err c.from_residual.result _ c.from_residual.ensures.0
+
+pub returns-in_err-extend_from_slice-clause-start : goal.returns-in_err-extend_from_slice-clause-start
+returns-in_err-extend_from_slice-clause-start g c = IfOk-from_err c.from_residual-in_err-extend_from_slice.result _ c.from_residual-in_err-extend_from_slice.ensures.0
+
+pub returns-in_err-extend_from_slice-clause-full : goal.returns-in_err-extend_from_slice-clause-full
+returns-in_err-extend_from_slice-clause-full g c = IfOk-from_err c.from_residual-in_err-extend_from_slice.result _ c.from_residual-in_err-extend_from_slice.ensures.0

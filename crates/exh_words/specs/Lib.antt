@@ -1,0 +1,5 @@
+-- commands and options, the words behind a command, and what is wrong with them
+pub mod Causes
+pub mod Commands
+pub mod Line
+pub mod Uses
