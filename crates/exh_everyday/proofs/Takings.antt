@@ -15,8 +15,8 @@ use Rattle.exh_file.specs.FileChange.{HasMap}
 use Rattle.exh_file.specs.Opened.{OpenedState}
 use Rattle.exh_map.specs.FileMap.{map_then}
 use Rattle.exh_everyday.specs.declared.found.Found.{Found}
-use Rattle.exh_everyday.specs.Founds.{AreFound, AreOut, AreTaken, AreTakenOut, Asked, IsAmong, IsLeft, IsOut, IsTakenOne, IsWithout, keys_of}
-use Rattle.exh_everyday.proofs.Founds.{added_none, added_one, found_of}
+use Rattle.exh_everyday.specs.Founds.{AreOut, AreTaken, Asked, IsAmong, IsLeft, IsOut, IsTakenOne, IsWithout, keys_of}
+use Rattle.exh_everyday.proofs.Founds.{added_none, added_one}
 
 -- ---- a del of one key
 
@@ -103,22 +103,13 @@ taken_none old found = record {
   taken = λ whole has. record { had = tt; left = whole; map = has; without = record { out = λ key among. absurd among; others = λ key other. refl } };
 }
 
-pub taken_one : (old now new : OpenedState) (keys : List (List ℕ)) (at : ℕ) (other : List ℕ) (before found after : Found) → at < length keys
-    → AreTaken old (take at keys) before found now → IsTakenOne now (get_or keys at other) found after new → AreTaken old (take (at + 1) keys) before after new
-taken_one old now new keys at other before found after within so_far one = record {
-  asked = so_far.asked ++ (get_or keys at other, one.0) ∷ [];
-  added = added_one keys at other before found after so_far.asked one.0 within so_far.added one.1.1;
+pub taken_one : (old now new : OpenedState) (keys : List (List ℕ)) (at : ℕ) (key : List ℕ) (before found after : Found) → at < length keys → key ≡ get_or keys at key
+    → AreTaken old (take at keys) before found now → IsTakenOne now key found after new → AreTaken old (take (at + 1) keys) before after new
+taken_one old now new keys at key before found after within is so_far one = record {
+  asked = so_far.asked ++ (key, one.0) ∷ [];
+  added = added_one keys at key before found after so_far.asked one.0 within is so_far.added one.1.1;
   taken = λ whole has.
       let was = so_far.taken whole has in
       let removed = one.1.0 was.left was.map in
-      left_more whole so_far.asked (get_or keys at other) one.0 now new was removed.answer_is removed.map;
-}
-
-pub taken_out : (old new : OpenedState) (keys : List (List ℕ)) (before after : Found) → before.pairs ≡ [] → before.absent.items ≡ [] → AreTaken old keys before after new → AreTakenOut keys after
-taken_out old new keys before after no_pairs none taken = record {
-  asked = taken.asked;
-  are = found_of keys before after taken.asked no_pairs none taken.added;
-  old = old;
-  new = new;
-  taken = taken.taken;
+      left_more whole so_far.asked key one.0 now new was removed.answer_is removed.map;
 }

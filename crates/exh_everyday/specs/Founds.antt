@@ -54,6 +54,10 @@ pub record AreFound (keys : List (List ℕ)) (asked : List Asked) (found : Found
   pub pairs : found.pairs ≡ pairs_of asked
   pub absent : found.absent.items ≡ absent_of asked
 
+-- whatever file it is found in
+abbrev pub AreOfKeys : List (List ℕ) → Found → Type 0
+AreOfKeys keys found = (asked : List Asked) × AreFound keys asked found
+
 -- ---- in a file of known bytes
 
 -- a key has this value, that of the file's map where the file is legal
@@ -112,12 +116,4 @@ IsTakenOne old key before after new = (value : Option (List ℕ)) × (IsRemoved 
 pub record AreTaken (old : OpenedState) (keys : List (List ℕ)) (before after : Found) (new : OpenedState) : Type 0 where
   pub asked : List Asked
   pub added : AreAdded keys before asked after
-  pub taken : (whole : KeyMap) → HasMap old whole → IsLeft whole asked new
-
--- out of some file
-pub record AreTakenOut (keys : List (List ℕ)) (found : Found) : Type 0 where
-  pub asked : List Asked
-  pub are : AreFound keys asked found
-  pub old : OpenedState
-  pub new : OpenedState
   pub taken : (whole : KeyMap) → HasMap old whole → IsLeft whole asked new

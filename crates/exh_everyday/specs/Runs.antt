@@ -18,7 +18,7 @@ use Rattle.exh_everyday.specs.declared.change.Change.{Change}
 use Rattle.exh_everyday.specs.declared.change.Change.TheVariants.{Put, PutNew, Replace, Remove, Swap}
 use Rattle.exh_everyday.specs.declared.found.Found.{Found}
 use Rattle.exh_everyday.specs.Changes.{IsAnswerTo}
-use Rattle.exh_everyday.specs.Founds.{AreTakenOut}
+use Rattle.exh_everyday.specs.Founds.{AreOfKeys}
 use Rattle.exh_run.specs.Ends.{Ends, Silent, made_status}
 use Rattle.exh_transfer.specs.Compacts.{CompactEnds}
 use Rattle.exh_transfer.specs.Counts.{StatsEnd}
@@ -46,17 +46,17 @@ PutEnds hex key values.Input when old new failed status = Ends (Silent Refused) 
 abbrev pub GetOneEnds : Form → Option (List ℕ) → Option (List ℕ) → Bool → Status → Type 0
 GetOneEnds form old new failed status = (found : Result (Option (List ℕ)) StoreError) × Ends (get_ended form found) old new failed status
 
-abbrev pub GetSeveralEnds : Bool → Option (List ℕ) → Option (List ℕ) → Bool → Status → Type 0
-GetSeveralEnds hex old new failed status = (found : Result Found StoreError) × Ends (get_several_ended hex found) old new failed status
+abbrev pub GetSeveralEnds : Bool → List (List ℕ) → Option (List ℕ) → Option (List ℕ) → Bool → Status → Type 0
+GetSeveralEnds hex several old new failed status = (found : Result Found StoreError) × (IfOk found (AreOfKeys several) × Ends (get_several_ended hex found) old new failed status)
 
 -- the keys of standard input aren't read, or they are
 abbrev pub GetEnds : Form → Keys → Option (List ℕ) → Option (List ℕ) → Bool → Status → Type 0
 GetEnds form (keys.One key) old new failed status = GetOneEnds form old new failed status
-GetEnds form (keys.Several several) old new failed status = GetSeveralEnds form.is_hex old new failed status
-GetEnds form keys.Input old new failed status = Ends (Silent Refused) old new failed status ⊎ GetSeveralEnds form.is_hex old new failed status
+GetEnds form (keys.Several several) old new failed status = GetSeveralEnds form.is_hex several.items old new failed status
+GetEnds form keys.Input old new failed status = Ends (Silent Refused) old new failed status ⊎ ((several : List (List ℕ)) × GetSeveralEnds form.is_hex several old new failed status)
 
 abbrev pub DelSeveralEnds : Bool → List (List ℕ) → Option (List ℕ) → Option (List ℕ) → Bool → Status → Type 0
-DelSeveralEnds hex several old new failed status = (taken : Result Found StoreError) × (IfOk taken (AreTakenOut several) × Ends (del_several_ended hex taken) old new failed status)
+DelSeveralEnds hex several old new failed status = (taken : Result Found StoreError) × (IfOk taken (AreOfKeys several) × Ends (del_several_ended hex taken) old new failed status)
 
 abbrev pub DelEnds : Bool → Keys → Option (List ℕ) → Option (List ℕ) → Bool → Status → Type 0
 DelEnds hex (keys.One key) old new failed status = ChangeEnds hex (Remove key) old new failed status

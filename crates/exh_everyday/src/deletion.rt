@@ -4,7 +4,7 @@ ghost use Rattle.exh_stream.specs.Output.{SameWriter, held, pending, writer_fail
 ghost use Rattle.exh_run.specs.Ends.{Ends};
 ghost use Rattle.exh_map.specs.CallFault.{IsWardFault};
 ghost use Rattle.exh_everyday.specs.Endings.{del_several_ended};
-ghost use Rattle.exh_everyday.specs.Founds.{AreTaken, AreTakenOut, IsTakenOne};
+ghost use Rattle.exh_everyday.specs.Founds.{AreOfKeys, AreTaken, IsTakenOne};
 ghost use Rattle.exh_everyday.specs.Runs.{DelEnds, DelSeveralEnds};
 
 use crate::change::{Change, make_change};
@@ -68,7 +68,7 @@ fn end_delete<W: Write>(
 
 // What keys had that were taken out. All of them are one commit.
 fn taken_out(run: &Run<'_>, keys: &[Key]) -> Result<Found, StoreError>
-    ensures { IfOk result (AreTakenOut keys.now) }
+    ensures { IfOk result (AreOfKeys keys.now) }
 {
     let mut store = Store::open_within(run.rt, run.path, run.seconds)?;
     let mut found = Found::new(run.rt.alloc());

@@ -103,7 +103,7 @@ fn get_several<W: Write>(run: &Run<'_>, keys: &[Key], output: &mut Output<'_, W>
     requires open { IsFalse (writer_failed output.old) }
     requires empty { pending output.old ≡ [] }
     ensures same_writer { SameWriter output.old output.new }
-    ensures ends { GetSeveralEnds run.now.form.is_hex (held W.contents output.old) (held W.contents output.new) (writer_failed output.new) result }
+    ensures ends { GetSeveralEnds run.now.form.is_hex keys.now (held W.contents output.old) (held W.contents output.new) (writer_failed output.new) result }
 {
     let found = values_at(run, keys);
     end_get_several(run, found, output)

@@ -1,9 +1,10 @@
 //! The values of several keys, as a reading of an open file, which may be made again.
-ghost use Rattle.std.specs.Prelude.{⊤, IfErr, IfOk, OnOk};
-ghost use Rattle.exh_everyday.specs.Founds.{AreFoundIn, AreOfFile, IsFaultOf, IsFoundOne, IsOfFile};
+ghost use Rattle.std.specs.Prelude.{◌≡◌, IfErr, IfOk, OnOk};
+ghost use Rattle.exh_everyday.specs.Founds.{AreFoundIn, AreOfFile, AreOfKeys, IsFaultOf, IsFoundOne, IsOfFile};
 
 use crate::found::Found;
 use crate::open_file::{OpenFile, SystemFile};
+use crate::wanted::Wanted;
 use exh_backup::unread_at;
 use exh_direct::DirectFault;
 use exh_in_place::{Reading, read_one_state};
@@ -15,16 +16,28 @@ use exhash::StoreError;
 use std::alloc::Global;
 use std::cell::Cell;
 use std::fs::File;
+use std::marker::{Brand, PhantomData};
 
 /// What keys have in one state of the file, each by its own blocks.
 ///
 /// Errors: as of `Direct::get`.
-pub(crate) fn values_at(run: &Run<'_>, keys: &[Key]) -> Result<Found, StoreError> {
+pub(crate) fn values_at(run: &Run<'_>, keys: &[Key]) -> Result<Found, StoreError>
+    ensures { IfOk result (AreOfKeys keys.now) }
+{
+    values_of::<Brand>(run, keys)
+}
+
+// The same, of the keys that are wanted.
+fn values_of<W: Wanted>(run: &Run<'_>, keys: &[Key]) -> Result<Found, StoreError>
+    requires { keys.now ≡ W.all_keys }
+    ensures { IfOk result (AreOfKeys W.all_keys) }
+{
     let reason = Cell::new(None);
-    let mut reading = KeysReading {
+    let mut reading = KeysReading::<W> {
         alloc: run.rt.alloc(),
         keys,
         reason: &reason,
+        of: PhantomData,
     };
     match read_one_state(run.rt, run.path, &mut reading, run.seconds) {
         Ok(Ok(found)) => Ok(found),
@@ -39,10 +52,12 @@ pub(crate) fn values_at(run: &Run<'_>, keys: &[Key]) -> Result<Found, StoreError
 
 // A get of keys. Why a block couldn't be read is the reason.
 #[derive(Drop)]
-struct KeysReading<'k> {
+struct KeysReading<'k, W: Wanted> {
     alloc: Global,
     keys: &'k [Key],
     reason: &'k Reason,
+    of: PhantomData<W>,
+    ghost all: { keys.now ≡ W.all_keys },
 }
 
 // Finds the values of keys in a page file; of a legal file they are its map's. They stand behind what is found by then.
@@ -86,10 +101,10 @@ fn value_in<F: OpenFile>(alloc: Global, file: &F, key: &Key) -> Result<Option<Va
     find_any(alloc, &mut blocks, key)
 }
 
-impl Reading for KeysReading<'_> {
+impl<W: Wanted> Reading for KeysReading<'_, W> {
     type Found = Result<Found, DirectFault>;
 
-    ghost gives = { λ _. ⊤ };
+    ghost gives = { λ found. IfOk found (AreOfKeys W.all_keys) };
 
     fn read(&mut self, file: &File) -> Result<Found, DirectFault> {
         self.reason.set(None);

@@ -17,3 +17,4 @@ mod open_file;
 mod performing;
 mod printing;
 mod shown;
+mod wanted;
