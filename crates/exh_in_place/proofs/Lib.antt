@@ -1,1 +1,2 @@
 pub mod FreshFiles
+pub mod RefusalLemmas

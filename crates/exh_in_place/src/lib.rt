@@ -2,6 +2,7 @@
 #![tactic(auto)]
 
 pub use call::{change_all_at, change_at, put_at};
+pub use laws::legal_files_are_whole;
 pub use one_state::{Reading, read_one_state};
 pub use open_file::OpenFile;
 pub use recovery::{recover_at, settle_before};
@@ -12,6 +13,7 @@ pub use stillness::hold_still;
 mod call;
 #[cfg(test)]
 mod examples;
+mod laws;
 mod locked;
 mod one_state;
 mod open_file;

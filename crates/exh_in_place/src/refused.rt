@@ -1,3 +1,7 @@
+ghost use Rattle.std.specs.Prelude.{◌≡◌, ◌↔◌, IsTrue};
+ghost use Rattle.exh_in_place.specs.Refusals.{IsOfFault, IsOfSaveFault, MayBeSaved};
+ghost use Rattle.exh_in_place.specs.declared.refused.Refused.TheVariants.{Unfit};
+
 use exh_commit::{ChangeFault, CommitFault};
 use exh_direct::DirectFault;
 use exh_edits::DifferingFault;
@@ -33,7 +37,9 @@ pub enum Refused {
 
 impl Refused {
     /// Whether the file may have been changed all the same.
-    pub fn may_be_saved(&self) -> bool {
+    pub fn may_be_saved(&self) -> bool
+        ensures { IsTrue result ↔ MayBeSaved self.now }
+    {
         matches!(
             self,
             Refused::Change(ChangeFault::Commit(CommitFault::MaybeSaved(_)))
@@ -43,6 +49,8 @@ impl Refused {
 }
 
 impl From<InPlaceFault> for Refused {
+    ghost from_gives = { λ fault refused. refused ≡ Unfit fault };
+
     fn from(fault: InPlaceFault) -> Refused {
         Refused::Unfit(fault)
     }
@@ -55,6 +63,8 @@ impl From<io::Error> for Refused {
 }
 
 impl From<FilesFault> for Refused {
+    ghost from_gives = { IsOfFault };
+
     fn from(fault: FilesFault) -> Refused {
         match fault {
             FilesFault::OthersLog => Refused::Unfit(InPlaceFault::OthersLog),
@@ -75,6 +85,8 @@ impl From<FilesFault> for Refused {
 }
 
 impl From<SaveFilesFault> for Refused {
+    ghost from_gives = { IsOfSaveFault };
+
     fn from(fault: SaveFilesFault) -> Refused {
         match fault {
             SaveFilesFault::Draft(SaveFault::Memory) => Refused::Unfit(InPlaceFault::Memory),

@@ -1,0 +1,2 @@
+-- what a refusal tells of a file
+pub mod Refusals
