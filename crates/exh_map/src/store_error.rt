@@ -1,6 +1,7 @@
 ghost use Rattle.std.specs.Prelude.{◌≡◌};
 ghost use Rattle.exh_map.specs.CallFault.{fault_of};
 ghost use Rattle.exh_map.specs.Sizes.{IsOfCause, IsOther};
+ghost use Rattle.exh_map.specs.Told.{IsChanged, IsOfReading, IsOfRefusal, IsOfUnfit, IsPlain, IsUnsure};
 ghost use Rattle.exh_map.specs.declared.store_error.StoreError.TheVariants.{Memory};
 
 use exh_codec::ImageFault;
@@ -170,7 +171,7 @@ impl<T: Drop> From<AllocFailed<T>> for StoreError {
 }
 
 impl From<io::Error> for StoreError {
-    ghost from_gives = { λ _ fault. IsOther fault × IsOfCause fault };
+    ghost from_gives = { λ _ fault. IsOther fault × IsOfCause fault × IsPlain fault };
 
     fn from(error: io::Error) -> StoreError {
         match error.kind() {
@@ -198,7 +199,7 @@ impl From<WardFault> for StoreError {
 }
 
 impl From<SaveFault> for StoreError {
-    ghost from_gives = { λ _ fault. IsOther fault × IsOfCause fault };
+    ghost from_gives = { λ _ fault. IsOther fault × IsOfCause fault × IsPlain fault };
 
     fn from(fault: SaveFault) -> StoreError {
         match fault {
@@ -221,7 +222,7 @@ impl From<DraftFault> for StoreError {
 }
 
 impl From<FileFault> for StoreError {
-    ghost from_gives = { λ _ fault. IsOther fault × IsOfCause fault };
+    ghost from_gives = { λ _ fault. IsOther fault × IsOfCause fault × (IsUnsure fault → ⊥) × (IsChanged fault → ⊥) };
 
     fn from(fault: FileFault) -> StoreError {
         match fault {
@@ -238,7 +239,7 @@ impl From<FileFault> for StoreError {
 }
 
 impl From<DirectFault> for StoreError {
-    ghost from_gives = { λ _ fault. IsOther fault × IsOfCause fault };
+    ghost from_gives = { λ cause fault. IsOther fault × IsOfCause fault × IsOfReading cause fault };
 
     fn from(fault: DirectFault) -> StoreError {
         match fault {
@@ -251,7 +252,7 @@ impl From<DirectFault> for StoreError {
 }
 
 impl From<InPlaceFault> for StoreError {
-    ghost from_gives = { λ _ fault. IsOther fault × IsOfCause fault };
+    ghost from_gives = { λ cause fault. IsOther fault × IsOfCause fault × IsOfUnfit cause fault };
 
     fn from(fault: InPlaceFault) -> StoreError {
         match fault {
@@ -267,7 +268,7 @@ impl From<InPlaceFault> for StoreError {
 }
 
 impl From<Refused> for StoreError {
-    ghost from_gives = { λ _ fault. IsOther fault × IsOfCause fault };
+    ghost from_gives = { λ refused fault. IsOther fault × IsOfCause fault × IsOfRefusal refused fault };
 
     fn from(refused: Refused) -> StoreError {
         match refused {
