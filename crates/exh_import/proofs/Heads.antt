@@ -1,19 +1,16 @@
 -- What stands before the pairs of a text of comma-separated fields.
-use Rattle.std.proofs.Common.{◌≡◌, ◌≢◌, ℕ, ◌+◌, Bool, true, false, List, [], ◌∷◌, ◌++◌, length, Option, Some, None, IfSome, Result, Ok, Err, IfErr, inl, inr, refl, sym, ap, ◌∙◌, subst, append_assoc, append-nil, length-append, arith}
-use Rattle.std.specs.Prelude.{not}
+use Rattle.std.proofs.Common.{◌≡◌, ◌≢◌, ℕ, true, false, List, [], ◌∷◌, ◌++◌, length, Option, Some, None, IfSome, Result, Ok, Err, IfErr, inl, inr, refl, sym, ap, ◌∙◌, subst, append_assoc, append-nil, length-append, arith}
 use Rattle.std.specs.Io.KnownBytes.{Consumes, IsAtEnd, Keeps}
-use Rattle.std.proofs.lemmas.Bool.{false≢true}
 use Rattle.std.proofs.KnownBytes.{Consumes-kept, Consumes-nil, Consumes-trans}
 use Rattle.exh_text.specs.TextLines.{newline}
 use Rattle.exh_pair_text.specs.Records.{IsEnded, IsOneLine}
-use Rattle.exh_pair_text.specs.declared.pair_format.PairFormat.{PairFormat}
 use Rattle.exh_pair_text.specs.declared.pair_format.PairFormat.TheVariants.{Csv}
 use Rattle.exh_import.specs.declared.heading.Heading.{Heading}
 use Rattle.exh_import.specs.declared.import_fault.ImportFault.{ImportFault}
 use Rattle.exh_import.specs.declared.import_fault.ImportFault.TheVariants.{Endless, Header, LongLine, Memory, OtherFormat, Read, Refused}
 use Rattle.exh_import.specs.declared.line_reader.LineReader.{LineReader}
 use Rattle.exh_import.specs.Causes.{IsLineCause, IsReadCause}
-use Rattle.exh_import.specs.Header.{HasHeader, HasLongHeader, HasOpening, Heads, IsBehind, IsBehindCause, IsHeadCause, IsHeaded, IsHeadingCause, IsLineRead, IsLongCause, IsOpening, IsOpeningCause, StandBefore, bare, opens}
+use Rattle.exh_import.specs.Header.{IsBehind, IsBehindCause, IsHeadCause, IsHeaded, IsHeadingCause, IsLineRead, IsLongCause, IsOpeningCause, StandBefore, opens}
 use Rattle.exh_import.specs.Imports.{IsTextOf}
 use Rattle.exh_import.specs.LineReader.{EndsRight, IsOver, TakesNext, text_left}
 use Rattle.exh_import.proofs.Texts.{over_end}
@@ -21,10 +18,6 @@ use Rattle.exh_import.proofs.Texts.{over_end}
 pub if_err_map : {T E : Type 0} (result : Result T E) (P Q : E → Type 0) → IfErr result P → ((fault : E) → P fault → Q fault) → IfErr result Q
 if_err_map (Ok made) P Q holds more = tt
 if_err_map (Err fault) P Q holds more = more fault holds
-
-pub was_taken : (b : Bool) → not b ≡ false → b ≡ true
-was_taken true is = refl
-was_taken false is = absurd (false≢true (sym is))
 
 -- ---- lines before others
 

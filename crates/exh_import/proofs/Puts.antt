@@ -12,7 +12,7 @@ use Rattle.exh_import.specs.declared.imported_store.Added.TheVariants.{Put, Full
 use Rattle.exh_import.specs.declared.options.ImportOptions.{ImportOptions}
 use Rattle.exh_import.specs.declared.rejection.Rejection.{Rejection}
 use Rattle.exh_import.specs.declared.taking.Taking.{Taking}
-use Rattle.exh_import.specs.Counting.{first_opening, full_counted, is_due, line_counted, lines_begun, more, pair_counted, rejected_counted, rested, starts}
+use Rattle.exh_import.specs.Counting.{first_opening, full_counted, is_due, line_counted, lines_begun, more, pair_counted, rejected_counted, rested}
 use Rattle.exh_import.specs.Imports.{Answered, FinishesWhere, Imports, Point, RestsWhere, SavesWhere, TakesAmid, TakesLine, TakesLines, TakesRead, TakesText}
 use Rattle.exh_import.specs.Pairs.{ArePut, AreSaved, all_but_last, pair_of, pairs_of, pairs_of_text, pairs_of_whole, pairs_put, read_of}
 

@@ -245,7 +245,7 @@ fn texts_are_imported(rt: HostRuntime) -> Result<(), Fail> {
             let found = imported(rt.alloc(), text, most, &words(false), &mut store, &mut told).ok();
             assert!(rt; found == Some(want), "at {lines}");
             assert!(rt; store.pairs.len() as u64 == pairs);
-            assert!(rt; told.lines.len() as u64 == rejected + full);
+            assert!(rt; told.lines.len() as u64 == rejected.saturating_add(full));
             assert!(rt; store.commits.last() == Some(&(pairs as usize)));
         }
     }
@@ -464,7 +464,7 @@ fn faults_end_an_import(rt: HostRuntime) -> Result<(), Fail> {
             _ => false
         }
     );
-    assert!(rt; store.commits.len() == 1023 && store.commits.last() == Some(&2046));
+    assert!(rt; store.commits.len() == 10 && store.commits.last() == Some(&1024));
     assert!(rt; store.pairs.len() == 2047);
     store.most = store.pairs.len();
     let found = imported(

@@ -1,4 +1,4 @@
 pub mod Causes
-pub mod Lines
+pub mod Keys
 pub mod Paths
 pub mod Places

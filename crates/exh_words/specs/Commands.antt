@@ -21,11 +21,10 @@ command_named word =
     else (if bytes_eq word (codes "del") then Some Del
     else (if bytes_eq word (codes "swap") then Some Swap else None))))))))))
 
--- the option of a name, without its two dashes
-abbrev pub option_named : List ℕ → Option CommandOption
-option_named name =
-    if bytes_eq name (codes "replace") then Some option.Replace
-    else (if bytes_eq name (codes "format") then Some option.Format
+-- the option of a name, of those of texts and counts of pairs
+unfoldable pub text_option_named : List ℕ → Option CommandOption
+text_option_named name =
+    if bytes_eq name (codes "format") then Some option.Format
     else (if bytes_eq name (codes "create") then Some option.Create
     else (if bytes_eq name (codes "atomic") then Some option.Atomic
     else (if bytes_eq name (codes "rejects") then Some option.Rejects
@@ -33,7 +32,12 @@ option_named name =
     else (if bytes_eq name (codes "key") then Some option.Key
     else (if bytes_eq name (codes "value") then Some option.Value
     else (if bytes_eq name (codes "bare") then Some option.Bare
-    else (if bytes_eq name (codes "json") then Some option.Json
+    else (if bytes_eq name (codes "json") then Some option.Json else None))))))))
+
+-- of those of files, keys and values
+unfoldable pub file_option_named : List ℕ → Option CommandOption
+file_option_named name =
+    if bytes_eq name (codes "replace") then Some option.Replace
     else (if bytes_eq name (codes "wait") then Some option.Wait
     else (if bytes_eq name (codes "hex") then Some option.Hex
     else (if bytes_eq name (codes "raw") then Some option.Raw
@@ -41,7 +45,15 @@ option_named name =
     else (if bytes_eq name (codes "from") then Some option.From
     else (if bytes_eq name (codes "cap") then Some option.Cap
     else (if bytes_eq name (codes "wards") then Some option.Wards
-    else (if bytes_eq name (codes "keyer") then Some option.Keyer else None)))))))))))))))))
+    else (if bytes_eq name (codes "keyer") then Some option.Keyer else None))))))))
+
+-- the option of a name, without its two dashes
+abbrev pub first_named : Option CommandOption → Option CommandOption → Option CommandOption
+first_named None other = other
+first_named (Some option) other = Some option
+
+abbrev pub option_named : List ℕ → Option CommandOption
+option_named name = first_named (text_option_named name) (file_option_named name)
 
 abbrev pub is_same_option : CommandOption → CommandOption → Bool
 is_same_option option.Wait option.Wait = true

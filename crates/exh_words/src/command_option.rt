@@ -1,6 +1,6 @@
 //! The options of the everyday commands.
 ghost use Rattle.std.specs.Prelude.{◌≡◌};
-ghost use Rattle.exh_words.specs.Commands.{has_value, is_same_option, option_named};
+ghost use Rattle.exh_words.specs.Commands.{file_option_named, has_value, is_same_option, option_named, text_option_named};
 
 use crate::word::is_word;
 
@@ -79,8 +79,37 @@ impl CommandOption {
     pub(crate) fn named(name: &[u8]) -> Option<CommandOption>
         ensures { result ≡ option_named name.now }
     {
+        match CommandOption::text_named(name) {
+            Some(option) => Some(option),
+            None => CommandOption::file_named(name),
+        }
+    }
+
+    // The option of a name, of those of files, keys and values.
+    #[tactic(auto, unfolding(crate::specs::Commands::file_option_named))]
+    fn file_named(name: &[u8]) -> Option<CommandOption>
+        ensures { result ≡ file_option_named name.now }
+    {
         match name {
             _ if is_word(name, "replace") => Some(CommandOption::Replace),
+            b"wait" => Some(CommandOption::Wait),
+            b"hex" => Some(CommandOption::Hex),
+            b"raw" => Some(CommandOption::Raw),
+            b"new" => Some(CommandOption::New),
+            b"from" => Some(CommandOption::From),
+            b"cap" => Some(CommandOption::Cap),
+            b"wards" => Some(CommandOption::Wards),
+            b"keyer" => Some(CommandOption::Keyer),
+            _ => None,
+        }
+    }
+
+    // The option of a name, of those of texts and counts of pairs.
+    #[tactic(auto, unfolding(crate::specs::Commands::text_option_named))]
+    fn text_named(name: &[u8]) -> Option<CommandOption>
+        ensures { result ≡ text_option_named name.now }
+    {
+        match name {
             _ if is_word(name, "format") => Some(CommandOption::Format),
             _ if is_word(name, "create") => Some(CommandOption::Create),
             _ if is_word(name, "atomic") => Some(CommandOption::Atomic),
@@ -90,14 +119,6 @@ impl CommandOption {
             _ if is_word(name, "value") => Some(CommandOption::Value),
             _ if is_word(name, "bare") => Some(CommandOption::Bare),
             _ if is_word(name, "json") => Some(CommandOption::Json),
-            b"wait" => Some(CommandOption::Wait),
-            b"hex" => Some(CommandOption::Hex),
-            b"raw" => Some(CommandOption::Raw),
-            b"new" => Some(CommandOption::New),
-            b"from" => Some(CommandOption::From),
-            b"cap" => Some(CommandOption::Cap),
-            b"wards" => Some(CommandOption::Wards),
-            b"keyer" => Some(CommandOption::Keyer),
             _ => None,
         }
     }

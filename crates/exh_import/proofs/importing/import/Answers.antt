@@ -1,12 +1,10 @@
-use Rattle.std.proofs.Common.{◌≡◌, refl, sym, ap, ◌∙◌, subst, length, arith}
-use Rattle.std.specs.Io.KnownBytes.{Keeps}
-use Rattle.std.proofs.lemmas.Result.{IfErr-weaker}
+use Rattle.std.proofs.Common.{◌≡◌, refl, sym, ◌∙◌, subst, length}
 use Rattle.exh_import.specs.declared.taking.Taking.{Taking}
 use Rattle.exh_import.specs.Causes.{IsCause}
 use Rattle.exh_import.specs.Counting.{starts}
 use Rattle.exh_import.specs.Imports.{Point, TakesLine}
 use Rattle.exh_import.specs.LineReader.{text_left}
-use Rattle.exh_import.proofs.Ends.{err_as, has_lines, next_cause, read_cause, store_cause}
+use Rattle.exh_import.proofs.Ends.{err_as, next_cause}
 use Rattle.exh_import.proofs.Texts.{IsAmid, IsWhole, amid_more, amid_none, if_ok_map, whole_start, whole_step}
 use Rattle.exh_import.proofs.Puts.{imports_put}
 use Rattle.exh_import.proofs.importing.import.Goals as goal
