@@ -1,5 +1,5 @@
 -- Steps one behind the other, of which the first that is wrong decides.
-use Rattle.std.proofs.Common.{◌≡◌, Result, Ok, Err, ap, subst, sym}
+use Rattle.std.proofs.Common.{◌≡◌, Result, Ok, ap, subst, sym}
 use Rattle.exh_words.specs.declared.wrong_request.WrongCause.{WrongCause}
 use Rattle.exh_words.specs.declared.cause_or_memory.CauseOrMemory.{CauseOrMemory}
 use Rattle.exh_words.specs.declared.cause_or_memory.CauseOrMemory.TheVariants.{Wrong, Memory}

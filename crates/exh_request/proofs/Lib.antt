@@ -1,4 +1,4 @@
 pub mod Causes
-pub mod Keys
+pub mod KeysBefore
 pub mod Paths
 pub mod Places

@@ -1,7 +1,7 @@
 use Rattle.std.proofs.Common.{◌≡◌, drop, map}
 use Rattle.exh_words.specs.Line.{placed_word}
 use Rattle.exh_request.specs.Request.{several_asked}
-use Rattle.exh_request.proofs.Keys.{behind_keys}
+use Rattle.exh_request.proofs.KeysBefore.{behind_keys}
 use Rattle.exh_request.proofs.asking.several.Given as goal
 
 -- the keys so far stand before those of the words that are left
