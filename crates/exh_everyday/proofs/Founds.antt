@@ -1,10 +1,10 @@
 -- What is found of keys, one behind the other.
-use Rattle.std.proofs.Common.{◌≡◌, ◌∙◌, ℕ, ◌+◌, ◌<◌, List, [], ◌∷◌, ◌++◌, length, take, get_or, map, Option, None, Some, Err, refl, sym, ap, append-nil}
+use Rattle.std.proofs.Common.{◌≡◌, ◌∙◌, ℕ, ◌+◌, ◌<◌, List, [], ◌∷◌, ◌++◌, length, take, get_or, Option, None, refl, sym, ap, append-nil}
 use Rattle.std.specs.List.{AllByRecursion}
 use Rattle.std.proofs.lemmas.List.{flat_map_more, map-append, take_more}
 use Rattle.exh_direct.specs.declared.direct_fault.DirectFault.TheVariants.{Memory, Read}
 use Rattle.exh_everyday.specs.declared.found.Found.{Found}
-use Rattle.exh_everyday.specs.Founds.{AreAdded, AreFound, AreFoundIn, AreOfFile, Asked, IsFaultOf, IsFoundOne, IsOfFile, IsPushed, absent_if, absent_of, keys_of, pair_if, pairs_of}
+use Rattle.exh_everyday.specs.Founds.{AreAdded, AreFound, AreFoundIn, AreOfFile, Asked, IsFaultOf, IsFoundOne, IsOfFile, IsPushed, absent_if, absent_of, pair_if, pairs_of}
 
 pub added_none : (found : Found) → AreAdded [] found [] found
 added_none found = record { each = refl; pairs = sym (append-nil found.pairs); absent = sym (append-nil found.absent.items) }

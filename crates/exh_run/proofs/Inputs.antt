@@ -1,6 +1,6 @@
 -- Keys and values of standard input.
-use Rattle.std.proofs.Common.{◌≡◌, ◌∙◌, ◌⊎◌, inl, inr, ℕ, ◌+◌, ◌*◌, ◌/◌, ◌<◌, ◌≤◌, Bool, true, false, cond, List, [], ◌∷◌, ◌++◌, length, map, Option, None, Some, Result, Ok, Err, refl, sym, ap, append_assoc, append-nil, arith}
-use Rattle.std.proofs.lemmas.List.{length-append, length-map, map-append}
+use Rattle.std.proofs.Common.{◌≡◌, ◌∙◌, ◌⊎◌, inl, inr, ℕ, ◌+◌, ◌/◌, ◌<◌, Bool, true, false, cond, List, [], ◌∷◌, ◌++◌, length, map, None, Some, Result, Ok, Err, refl, sym, ap, append_assoc, append-nil, arith}
+use Rattle.std.proofs.lemmas.List.{length-map, map-append}
 use Rattle.hex.proofs.HexLemmas.{decode_of-ok}
 use Rattle.hex.specs.Hex.{decode_of}
 use Rattle.hex.specs.declared.error.FromHexError.{FromHexError}
@@ -8,7 +8,7 @@ use Rattle.exh_page.specs.declared.key.TheConstants.{KEY_LIMIT}
 use Rattle.exh_text.specs.ByteWord.{key_in_range}
 use Rattle.exh_text.specs.TextLines.{newline, parts_at}
 use Rattle.exh_run.specs.declared.wrong_input.WrongInput.{WrongInput}
-use Rattle.exh_run.specs.Input.{AreKeys, AreKeysOf, AreLines, HasNoKeys, IsBeforeNewline, IsFirstOther, IsNoKeys, bytes_decoded, if_key, key_of_line}
+use Rattle.exh_run.specs.Input.{AreKeys, AreKeysOf, HasNoKeys, IsBeforeNewline, IsFirstOther, IsNoKeys, bytes_decoded, if_key, key_of_line}
 
 -- ---- lines that are read one by one
 
