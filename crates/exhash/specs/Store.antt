@@ -25,6 +25,11 @@ IsReadOnly file = file ≡ None
 
 -- ---- errors
 
+-- it is saved, and the store has its file no longer
+abbrev pub IsUnheld : StoreError → Type 0
+IsUnheld (Unheld error) = ⊤
+IsUnheld fault = ⊥
+
 -- a save sees itself that the file is gone, of a version without places, or would be too long; or it is saved, but not held, or
 -- its folder isn't synchronized
 abbrev pub IsOfFile : StoreError → Type 0
