@@ -76,9 +76,15 @@ module _ (truthful : Bool) (draft : DraftState) (whole : KeyMap) (stamps : Stamp
         (bytes, stands, committed bytes holds)
 
 -- files that nothing was done to
+pub leaves_same : {D : Type 0} (g : Ghosts D) (log db : D) (old : List ℕ) → Only (g.seen log) (g.may_leave log) → Only (g.seen db) (g.may_leave db) → StandsFor (seen_image g log db) old
+    → Leaves g (log, db) (λ bytes. bytes ≡ old)
+leaves_same {D} g log db old log_synced db_synced found left clean may =
+    let of_two : List ℕ → List ℕ → Image = λ log db. record { log = log; db = db } in
+    let is : left ≡ seen_image g log db = ap₂ of_two (log_synced left.log may.0) (db_synced left.db may.1) in
+    (old, subst (λ (image : Image). StandsFor image old) (sym is) found, refl)
+
 pub leaves_untouched : {D : Type 0} (g : Ghosts D) (log db : D) (truthful : Bool) (whole : KeyMap) (stamps : Stamps) (old : List ℕ) → Only (g.seen log) (g.may_leave log) → Only (g.seen db) (g.may_leave db) → StandsFor (seen_image g log db) old
     → Leaves g (log, db) (IsOldOrCommitted truthful whole stamps old)
 leaves_untouched {D} g log db truthful whole stamps old log_synced db_synced found left clean may =
-    let of_two : List ℕ → List ℕ → Image = λ log db. record { log = log; db = db } in
-    let is : left ≡ seen_image g log db = ap₂ of_two (log_synced left.log may.0) (db_synced left.db may.1) in
-    (old, subst (λ (image : Image). StandsFor image old) (sym is) found, inl refl)
+    let (bytes, stands, same) = leaves_same g log db old log_synced db_synced found left clean may in
+    (bytes, stands, inl same)

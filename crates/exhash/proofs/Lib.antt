@@ -1,5 +1,6 @@
 pub mod CallsLemmas
 pub mod CommitLemmas
+pub mod FaultLemmas
 pub mod NewLemmas
 pub mod SizeLemmas
 pub mod StoreLemmas

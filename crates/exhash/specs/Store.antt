@@ -6,7 +6,6 @@ use Rattle.exh_settings.specs.FileSettings.{AreInRange, are_same}
 use Rattle.exh_settings.specs.declared.file_settings.FileSettings.{FileSettings}
 use Rattle.exh_file.specs.FileChange.{HasMap}
 use Rattle.exh_file.specs.Opened.{OpenedState, settings_in}
-use Rattle.exh_map.specs.CallFault.{IsWardFault}
 use Rattle.exh_map.specs.Sizes.{IsOfCause, IsOfOpening}
 use Rattle.exh_map.specs.declared.store_error.StoreError.{StoreError}
 use Rattle.exh_map.specs.declared.store_error.StoreError.TheVariants.{AboveLimit, Exists, OldVersion, ReadOnly, Settings, Unheld, Unsynchronized, Vanished}
@@ -24,6 +23,11 @@ abbrev pub IsReadOnly : {F : Type 0} → Option F → Type 0
 IsReadOnly file = file ≡ None
 
 -- ---- errors
+
+-- it is saved, and the store has its file no longer
+abbrev pub IsUnheld : StoreError → Type 0
+IsUnheld (Unheld error) = ⊤
+IsUnheld fault = ⊥
 
 -- a save sees itself that the file is gone, of a version without places, or would be too long; or it is saved, but not held, or
 -- its folder isn't synchronized

@@ -1,20 +1,21 @@
 //! Commits of calls over any disk.
-ghost use Rattle.std.specs.Prelude.{◌≡◌, ℕ, List, IfOk, IsTrue, OnOk};
+ghost use Rattle.std.specs.Prelude.{◌≡◌, ℕ, List, IfErr, IfOk, IsTrue, OnOk};
 ghost use Rattle.sqlite_disk.specs.Disk.{Only};
 ghost use Rattle.sqlite_wal.specs.Files.{seen_image};
 ghost use Rattle.sqlite_wal.specs.Reads.{AreClean};
-ghost use Rattle.exh_paged.specs.OwnLog.{HasStamp};
+ghost use Rattle.exh_paged.specs.OwnLog.{HasOtherStamp, HasStamp};
 ghost use Rattle.exh_batch.specs.Batch.{map_after_all};
 ghost use Rattle.exh_commit.specs.FilePages.{Leaves, LeavesAlone, StandsFor};
 ghost use Rattle.exh_keyer.specs.Pseudokey.{any_pseudokey};
 ghost use Rattle.exh_keyer.specs.declared.any_keyer.AnyKeyer.{AnyKeyer};
 ghost use Rattle.exh_page.specs.KeyMap.{KeyMap};
 ghost use Rattle.exh_settings.specs.declared.file_settings.FileSettings.{FileSettings};
+ghost use Rattle.exh_map.specs.Told.{IsChanged, IsOfContent, IsUnsure};
 ghost use Rattle.exhash.specs.Commit.{IsCommittedAs, IsFileOf, IsOldOrCommitted, stamps_behind};
 
 use exh_calls::Call;
 use exh_commit::Truthful;
-use exh_in_place::Refused;
+use exh_in_place::{Refused, legal_files_are_whole};
 use exh_map::StoreError;
 use exh_paged::answer_over;
 use sqlite_disk::Files;
@@ -51,7 +52,14 @@ pub fn commit_calls<D: Truthful + Drop>(
         → LeavesAlone D.Disk (result.1.log, result.1.db) (IsCommittedAs D.Truthful.is_truthful (map_after_all settings.cap (any_pseudokey settings.keyer) was calls.now) (stamps_behind own stamp) now old)) }
     // It had the stamp before, unless a wrong answer of the disk was taken as true.
     ensures opened { OnOk result.0 (AreClean D.Disk result.1.log result.1.db → (old : List ℕ) → StandsFor (seen_image D.Disk files.log files.db) old → HasStamp before old) }
+    // `Changed` tells that it has another one.
+    ensures changed { IfErr result.0 (λ fault. IsChanged fault → AreClean D.Disk result.1.log result.1.db → (old : List ℕ) → StandsFor (seen_image D.Disk files.log files.db) old → HasOtherStamp before old) }
+    // But for `Unsure` nothing was changed.
+    ensures unchanged { IfErr result.0 (λ fault. (IsUnsure fault → ⊥) → (old : List ℕ) → StandsFor (seen_image D.Disk files.log files.db) old → Leaves D.Disk (result.1.log, result.1.db) (λ bytes. bytes ≡ old)) }
+    // Of a legal page file nothing is told to be wrong, where no answer of the disk can be wrong.
+    ensures legal { IfErr result.0 (λ fault. IsOfContent fault → IsTrue D.Truthful.is_truthful → (settings : FileSettings AnyKeyer) (was : KeyMap) (own : ℕ) (old : List ℕ) → StandsFor (seen_image D.Disk files.log files.db) old → IsFileOf settings was own old → ⊥) }
 {
+    legal_files_are_whole();
     let (answered, files) = answer_over(alloc, files, options, before, calls, stamp);
     match answered {
         Ok(answered) => (Ok(answered.stamp), files),

@@ -1,20 +1,21 @@
 //! Commits over any disk.
-ghost use Rattle.std.specs.Prelude.{◌≡◌, ℕ, List, IfOk, IsTrue, OnOk};
+ghost use Rattle.std.specs.Prelude.{◌≡◌, ℕ, List, IfErr, IfOk, IsTrue, OnOk};
 ghost use Rattle.sqlite_disk.specs.Disk.{Only};
 ghost use Rattle.sqlite_wal.specs.Files.{seen_image};
 ghost use Rattle.sqlite_wal.specs.Reads.{AreClean};
 ghost use Rattle.exh_paged.specs.OwnLog.{HasStamp};
 ghost use Rattle.exh_commit.specs.FilePages.{Leaves, LeavesAlone, StandsFor};
 ghost use Rattle.exh_file.specs.FileChange.{HasMap};
-ghost use Rattle.exh_file.specs.Opened.{settings_in};
+ghost use Rattle.exh_file.specs.Opened.{AreWardsOf, settings_in};
 ghost use Rattle.exh_file.specs.declared.placing.Stamps.{Stamps as StampsOf};
 ghost use Rattle.exh_page.specs.KeyMap.{KeyMap};
 ghost use Rattle.exhash.specs.Commit.{Drafts, IsCommitted, IsOldOrCommitted};
 ghost use Rattle.exh_map.specs.FileMap.{KeepsMap};
+ghost use Rattle.exh_map.specs.Sizes.{IsOfCause};
+ghost use Rattle.exh_map.specs.Told.{IsUnsure};
 
-use crate::drafting::drafted;
 use exh_commit::Truthful;
-use exh_file::{Draft, Stamps};
+use exh_file::{Draft, Opened, Stamps};
 use exh_frames::FileStore;
 use exh_in_place::Refused;
 use exh_map::{FileMap, StoreError};
@@ -54,6 +55,8 @@ pub fn commit_files<D: Truthful + Drop, P: Pages + Drop>(
         → LeavesAlone D.Disk (result.1.log, result.1.db) (IsCommitted D.Truthful.is_truthful whole stamps old)) }
     // It had the stamp before, unless a wrong answer of the disk was taken as true.
     ensures opened { OnOk result.0 (AreClean D.Disk result.1.log result.1.db → (old : List ℕ) → StandsFor (seen_image D.Disk files.log files.db) old → HasStamp stamps.before old) }
+    // But for `Unsure` nothing was changed.
+    ensures unchanged { IfErr result.0 (λ fault. (IsUnsure fault → ⊥) → (old : List ℕ) → StandsFor (seen_image D.Disk files.log files.db) old → Leaves D.Disk (result.1.log, result.1.db) (λ bytes. bytes ≡ old)) }
     // The map is as before.
     ensures kept { KeepsMap map.old map.new }
     ensures settings { settings_in map.new ≡ settings_in map.old }
@@ -81,6 +84,26 @@ fn draft_of<P: Pages + Drop>(
     }
 }
 
+/// The draft of wards some of whose pages have places already, where they have these low bounds. It takes memory for some
+/// bytes a page.
+///
+/// `Changed`: they aren't pages of these wards. `Memory`: a growth was refused. `OutOfReach`: a page is out of reach.
+pub(crate) fn drafted(
+    alloc: Global,
+    wards: Opened<FileStore>,
+    lows: &[u64],
+    stamps: Stamps,
+) -> Result<Draft<FileStore>, StoreError>
+    requires { AreWardsOf wards }
+    ensures draft { IfOk result (λ draft. (whole : KeyMap) → HasMap wards whole → Drafts whole stamps draft) }
+    ensures refused { IfErr result IsOfCause }
+{
+    match Draft::grown(alloc, wards, lows, stamps) {
+        Ok(draft) => Ok(draft),
+        Err(fault) => Err(StoreError::from(fault)),
+    }
+}
+
 // Saves a draft over a file that has this stamp.
 fn save_draft<D: Truthful + Drop>(
     alloc: Global,
@@ -98,6 +121,7 @@ fn save_draft<D: Truthful + Drop>(
     ensures ok { OnOk result.0 ((whole : KeyMap) (stamps : StampsOf) → Drafts whole stamps draft → (old : List ℕ) → StandsFor (seen_image D.Disk files.log files.db) old
         → LeavesAlone D.Disk (result.1.log, result.1.db) (IsCommitted D.Truthful.is_truthful whole stamps old)) }
     ensures opened { OnOk result.0 (AreClean D.Disk result.1.log result.1.db → (old : List ℕ) → StandsFor (seen_image D.Disk files.log files.db) old → HasStamp stamp old) }
+    ensures unchanged { IfErr result.0 (λ fault. (IsUnsure fault → ⊥) → (old : List ℕ) → StandsFor (seen_image D.Disk files.log files.db) old → Leaves D.Disk (result.1.log, result.1.db) (λ bytes. bytes ≡ old)) }
 {
     let (saved, files) = save_files(alloc, files, options, stamp, draft);
     match saved {

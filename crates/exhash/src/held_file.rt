@@ -5,7 +5,7 @@ ghost use Rattle.exh_map.specs.FileMap.{KeepsMap};
 ghost use Rattle.exh_map.specs.Sizes.{IsOfCause, IsOfOpening};
 ghost use Rattle.exhash.specs.Store.{IsOfSaving};
 
-use crate::drafting::drafted;
+use crate::disk_commit::drafted;
 use crate::new_file::{draft_anew, save_draft, synchronized};
 use crate::reading::read_whole;
 use exh_backup::opened_at;

@@ -20,7 +20,6 @@ mod direct;
 mod disk_commit;
 #[cfg(test)]
 mod disk_examples;
-mod drafting;
 mod held_file;
 mod key_reading;
 mod new_file;

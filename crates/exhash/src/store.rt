@@ -11,7 +11,7 @@ ghost use Rattle.exh_map.specs.Sizes.{IsOfCause, IsOfOpening};
 ghost use Rattle.exh_map.specs.declared.store_error.StoreError.TheVariants.{ReadOnly, Settings as SettingsFault};
 ghost use Rattle.exh_pending.specs.Pending.{IsEmpty, KeepsPending};
 ghost use Rattle.exh_settings.specs.FileSettings.{AreInRange};
-ghost use Rattle.exhash.specs.Store.{IsHeld, IsNew, IsOfCommit, IsOfMaking, IsOfNew, IsReadOnly};
+ghost use Rattle.exhash.specs.Store.{IsHeld, IsNew, IsOfCommit, IsOfMaking, IsOfNew, IsReadOnly, IsUnheld};
 
 use crate::held_file::HeldFile;
 use crate::new_file::make;
@@ -330,6 +330,7 @@ impl<'r> Store<'r> {
     pub fn close(self) -> Result<(), StoreError>
         ensures read { IsReadOnly self.entry.file → result ≡ Err ReadOnly }
         ensures refused { IfErr result (IsOfCommit self.entry.file) }
+        ensures held { IfErr result (λ fault. IsUnheld fault → ⊥) }
     {
         let mut store = self;
         match store.commit() {

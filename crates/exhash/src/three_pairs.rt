@@ -23,11 +23,12 @@ fn begun(bytes: &[u8]) -> Block
     block
 }
 
-// The header of cap 2 under keyer plain, with two pages.
+// The header of cap 2 under keyer plain, with two pages and the stamps 7 and 5.
 fn header() -> Block {
     let mut block = begun(b"EXHASHPF");
     put(&mut block, 8, &[0, 3, 2, 0, 2]);
     put(&mut block, 19, &[0, 0, 0, 0, 2]);
+    put(&mut block, 91, &[7, 0, 0, 0, 0, 0, 0, 0, 5]);
     block
 }
 
@@ -53,16 +54,10 @@ fn sealed(alloc: Global, blocks: &[Block]) -> Result<Vec<u8>, AllocError> {
     Ok(bytes)
 }
 
-/// The file of version 3, with the stamps 7 and 5.
+/// The file of version 3.
 pub(crate) fn third_version(alloc: Global) -> Result<Vec<u8>, AllocError> {
     let [first, second] = pages();
-    let mut head = header();
-    put(
-        &mut head,
-        84,
-        &[0, 0, 0, 0, 0, 0, 0, 7, 0, 0, 0, 0, 0, 0, 0, 5],
-    );
     let mut walk = begun(&[0, 0, 0, 0, 0, 0, 0, 1, 0, 0, 0, 1]);
     put(&mut walk, 164, &[0, 0, 0, 1]);
-    sealed(alloc, &[head, walk, first, second])
+    sealed(alloc, &[header(), walk, first, second])
 }

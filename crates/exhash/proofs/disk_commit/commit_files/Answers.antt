@@ -1,6 +1,6 @@
 use Rattle.std.proofs.Common.{Result, Ok, Err, OnOk}
 use Rattle.exh_map.specs.declared.store_error.StoreError.{StoreError}
-use Rattle.exhash.proofs.CommitLemmas.{leaves_untouched}
+use Rattle.exhash.proofs.CommitLemmas.{leaves_same, leaves_untouched}
 use Rattle.exhash.proofs.disk_commit.commit_files.Goals as goal
 
 on_ok : {P Q : Type 0} (result : Result (Unit {0}) StoreError) → (P → Q) → OnOk result P → OnOk result Q
@@ -19,3 +19,10 @@ returns-in-Err-clause-crash g c whole has old stands =
 
 pub returns-in-Ok-clause-opened : goal.returns-in-Ok-clause-opened
 returns-in-Ok-clause-opened g c = c.save_draft.ensures.opened
+
+pub returns-in-Ok-clause-unchanged : goal.returns-in-Ok-clause-unchanged
+returns-in-Ok-clause-unchanged g c = c.save_draft.ensures.unchanged
+
+pub returns-in-Err-clause-unchanged : goal.returns-in-Err-clause-unchanged
+returns-in-Err-clause-unchanged g c sure old stands =
+    leaves_same g.D.Disk c.args.files.log c.args.files.db old c.requires.log_synced c.requires.db_synced stands

@@ -6,6 +6,7 @@ use Rattle.exh_paged.specs.OwnLog.{HasStamp}
 use Rattle.exh_paged.specs.Saving.{IsSavedOver}
 use Rattle.exh_paged.specs.declared.save_files_fault.SaveFilesFault.{SaveFilesFault}
 use Rattle.exhash.proofs.CommitLemmas.{leaves_committed, leaves_either}
+use Rattle.exhash.proofs.FaultLemmas.{unsaved_for}
 use Rattle.exhash.proofs.disk_commit.save_draft.Goals as goal
 
 pub returns-in-Ok-clause-crash : goal.returns-in-Ok-clause-crash
@@ -31,3 +32,8 @@ returns-in-Ok-clause-opened g c =
     let back = c.save_files-saved.result.1 in
     subst (λ (saved : Result (Unit {0}) SaveFilesFault). OnOk saved (AreClean g.D.Disk back.log back.db → (old : List ℕ) → StandsFor (seen_image g.D.Disk c.args.files.log c.args.files.db) old → HasStamp c.args.stamp old))
     c.in-Ok.is c.save_files-saved.ensures.opened
+
+pub returns-in-Err-clause-unchanged : goal.returns-in-Err-clause-unchanged
+returns-in-Err-clause-unchanged g c sure old stands =
+    let left = rw c.in-Err.is at c.save_files-saved.ensures.unchanged in
+    left (unsaved_for c.in-Err.fault c.from.result c.from-in-Err.result c.from.ensures c.from-in-Err.ensures.2 sure) old stands

@@ -1,5 +1,5 @@
 use Rattle.exhash.proofs.CommitLemmas.{drafts}
-use Rattle.exhash.proofs.drafting.drafted.Goals as goal
+use Rattle.exhash.proofs.disk_commit.drafted.Goals as goal
 
 pub returns-in-Ok-clause-draft : goal.returns-in-Ok-clause-draft
 returns-in-Ok-clause-draft c = drafts c.args.wards c.args.lows.now c.args.stamps c.in-Ok.draft c.requires c.in-Ok.ensures
