@@ -1,2 +1,3 @@
--- why a page file isn't copied
+-- why a page file isn't copied, and what copied blocks leave
 pub mod Backup
+pub mod Copy

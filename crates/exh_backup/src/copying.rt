@@ -5,15 +5,17 @@ ghost use Rattle.exh_backup.specs.Backup.{IsOfBackup, IsOfSource};
 
 use crate::BackupFault;
 use crate::beside::Beside;
+use crate::blocks::{copy_all, copy_rest, finish};
 use crate::source::{opened_at, see_old_version};
+use crate::target::FileTarget;
 use exh_codec::BLOCK_LEN;
 use exh_disk::folder_of;
 use exh_in_place::{Reading, Refused, hold_still, read_one_state};
 use exh_map::StoreError;
 use exh_path::open_above;
-use exh_system::{InPlaceFault, WAIT};
+use exh_system::{FileBlocks, InPlaceFault, Reason, WAIT};
+use std::cell::Cell;
 use std::fs::File;
-use std::os::unix::fs::FileExt;
 use std::{fs, io};
 
 /// Copies the page file of a path, of any version, byte for byte to a new path at which nothing is: all of one state, also
@@ -110,14 +112,22 @@ fn fill(
 ) -> Result<(), BackupFault>
     ensures { IfErr result IsOfBackup }
 {
-    let first = if source.is_still {
-        copy_rest(&source.file, copy)?
+    if source.is_still {
+        copy_still(&source.file, copy)
     } else {
-        copy_state(rt, path, copy, seconds)?
-    };
-    synchronize(copy)?;
-    write_block(copy, 0, &first)?;
-    synchronize(copy)
+        copy_state(rt, path, copy, seconds)
+    }
+}
+
+// Copies a page file that stands still into an empty file.
+fn copy_still(file: &File, copy: &File) -> Result<(), BackupFault>
+    ensures { IfErr result IsOfBackup }
+{
+    let reason = Cell::new(None);
+    match whole_blocks(file, &reason) {
+        Ok(mut blocks) => copy_all(&mut blocks, &mut FileTarget { file: copy }),
+        Err(fault) => Err(BackupFault::File(fault)),
+    }
 }
 
 // A file that gets all blocks but the first.
@@ -132,85 +142,32 @@ impl Reading for Rest<'_> {
     ghost gives = { λ found. IfErr found IsOfBackup };
 
     fn read(&mut self, file: &File) -> Result<[u8; BLOCK_LEN], BackupFault> {
-        copy_rest(file, self.copy)
+        let reason = Cell::new(None);
+        match whole_blocks(file, &reason) {
+            Ok(mut blocks) => copy_rest(&mut blocks, &mut FileTarget { file: self.copy }),
+            Err(fault) => Err(BackupFault::File(fault)),
+        }
     }
 }
 
-// Copies all blocks but the first of one state of the page file of a path that another process may change, and gives the
-// first.
-fn copy_state(
-    rt: &HostRuntime,
-    path: &str,
-    copy: &File,
-    seconds: u64,
-) -> Result<[u8; BLOCK_LEN], BackupFault>
+// Copies one state of the page file of a path that another process may change into an empty file.
+fn copy_state(rt: &HostRuntime, path: &str, copy: &File, seconds: u64) -> Result<(), BackupFault>
     ensures { IfErr result IsOfBackup }
 {
     match read_one_state(rt, path, &mut Rest { copy }, seconds) {
-        Ok(found) => found,
+        Ok(Ok(first)) => finish(&mut FileTarget { file: copy }, &first),
+        Ok(Err(fault)) => Err(fault),
         Err(refused) => Err(BackupFault::File(StoreError::from(refused))),
     }
 }
 
-// Copies all blocks but the first of a file, and gives the first.
-fn copy_rest(file: &File, copy: &File) -> Result<[u8; BLOCK_LEN], BackupFault>
-    ensures { IfErr result IsOfBackup }
-{
-    let count = match block_count(file) {
-        Ok(count) => count,
-        Err(fault) => return Err(BackupFault::File(fault)),
-    };
-    let first = read_block(file, 0)?;
-    for place in 1..count {
-        write_block(copy, place, &read_block(file, place)?)?;
-    }
-    match copy.set_len(start_of(count)) {
-        Ok(()) => Ok(first),
-        Err(error) => Err(BackupFault::Copy(StoreError::from(error))),
-    }
-}
-
-// How many blocks a file has.
-fn block_count(file: &File) -> Result<u64, StoreError>
+// The blocks of a file, which has whole ones alone.
+fn whole_blocks<'f>(file: &'f File, reason: &'f Reason) -> Result<FileBlocks<'f>, StoreError>
     ensures { IfErr result IsOfCause }
 {
-    let length = file.metadata()?.len();
-    if length % BLOCK_LEN as u64 == 0 {
-        Ok(length / BLOCK_LEN as u64)
+    if file.metadata()?.len() % BLOCK_LEN as u64 == 0 {
+        Ok(FileBlocks::new(file, reason)?)
     } else {
         Err(StoreError::Truncated)
-    }
-}
-
-// Where a block begins.
-fn start_of(place: u64) -> u64 {
-    place.saturating_mul(BLOCK_LEN as u64)
-}
-
-fn read_block(file: &File, place: u64) -> Result<[u8; BLOCK_LEN], BackupFault>
-    ensures { IfErr result IsOfBackup }
-{
-    let mut block = [0; BLOCK_LEN];
-    match file.read_exact_at(&mut block, start_of(place)) {
-        Ok(()) => Ok(block),
-        Err(error) => Err(BackupFault::File(StoreError::from(error))),
-    }
-}
-
-fn write_block(copy: &File, place: u64, block: &[u8; BLOCK_LEN]) -> Result<(), BackupFault>
-    ensures { IfErr result IsOfBackup }
-{
-    match copy.write_all_at(block, start_of(place)) {
-        Ok(()) => Ok(()),
-        Err(error) => Err(BackupFault::Copy(StoreError::from(error))),
-    }
-}
-
-fn synchronize(copy: &File) -> Result<(), BackupFault>
-    ensures { IfErr result IsOfBackup }
-{
-    match copy.sync_all() {
-        Ok(()) => Ok(()),
-        Err(error) => Err(BackupFault::Copy(StoreError::from(error))),
     }
 }

@@ -1,0 +1,2 @@
+-- blocks that are copied one after the other
+pub mod CopyLemmas
