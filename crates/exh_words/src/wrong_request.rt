@@ -69,7 +69,7 @@ impl fmt::Display for WrongRequest {
             }
             WrongCause::NamesOfNone => write!(
                 f,
-                "`{command}` takes --key and --value only beside --format jsonl, or csv with --header"
+                "`{command}` takes --key and --value only beside --format jsonl or --header"
             ),
             WrongCause::OneName => write!(
                 f,
