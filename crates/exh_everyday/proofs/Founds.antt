@@ -1,10 +1,9 @@
 -- What is found of keys, one behind the other.
-use Rattle.std.proofs.Common.{◌≡◌, ◌∙◌, ℕ, ◌+◌, ◌<◌, List, [], ◌∷◌, ◌++◌, length, take, get_or, Option, None, refl, sym, ap, append-nil}
+use Rattle.std.proofs.Common.{◌≡◌, ◌∙◌, ℕ, ◌+◌, ◌<◌, List, [], ◌∷◌, ◌++◌, length, take, get_or, Option, refl, sym, ap, append-nil}
 use Rattle.std.specs.List.{AllByRecursion}
 use Rattle.std.proofs.lemmas.List.{flat_map_more, map-append, take_more}
-use Rattle.exh_direct.specs.declared.direct_fault.DirectFault.TheVariants.{Memory, Read}
 use Rattle.exh_everyday.specs.declared.found.Found.{Found}
-use Rattle.exh_everyday.specs.Founds.{AreAdded, AreFound, AreFoundIn, AreOfFile, Asked, IsFaultOf, IsFoundOne, IsOfFile, IsPushed, absent_if, absent_of, pair_if, pairs_of}
+use Rattle.exh_everyday.specs.Founds.{AreAdded, AreFound, AreFoundIn, AreOfFile, Asked, IsFoundOne, IsOfFile, IsPushed, absent_if, absent_of, pair_if, pairs_of}
 
 pub added_none : (found : Found) → AreAdded [] found [] found
 added_none found = record { each = refl; pairs = sym (append-nil found.pairs); absent = sym (append-nil found.absent.items) }
@@ -29,9 +28,6 @@ all_more : (P : Asked → Type 0) (asked : List Asked) (last : Asked) → AllByR
 all_more P [] last all is = (is, tt)
 all_more P (one ∷ asked) last all is = (all.0, all_more P asked last all.1 is)
 
-pub of_file_none : (known : Option (List ℕ)) (found : Found) → AreOfFile known [] found found
-of_file_none known found = record { asked = []; added = added_none found; are = tt }
-
 pub of_file_one : (known : Option (List ℕ)) (keys : List (List ℕ)) (at : ℕ) (key : List ℕ) (before now after : Found) → at < length keys → key ≡ get_or keys at key
     → AreOfFile known (take at keys) before now → IsFoundOne known key now after → AreOfFile known (take (at + 1) keys) before after
 of_file_one known keys at key before now after within is so_far one = record {
@@ -42,10 +38,3 @@ of_file_one known keys at key before now after within is so_far one = record {
 
 pub found_in : (known : Option (List ℕ)) (keys : List (List ℕ)) (before after : Found) → before.pairs ≡ [] → before.absent.items ≡ [] → AreOfFile known keys before after → AreFoundIn known keys after
 found_in known keys before after no_pairs none are = record { asked = are.asked; all = found_of keys before after are.asked no_pairs none are.added; are = are.are }
-
--- want of memory, and what isn't read, are no faults of a file
-pub no_memory : (known : Option (List ℕ)) → IsFaultOf known Memory
-no_memory known = ([], (None, (None, record { plain = λ file bytes is are legal. tt; placed = λ file tables bytes is are legal. tt })))
-
-pub unread : (known : Option (List ℕ)) → IsFaultOf known Read
-unread known = ([], (None, (None, record { plain = λ file bytes is are legal. tt; placed = λ file tables bytes is are legal. tt })))

@@ -6,7 +6,6 @@ use Rattle.exh_settings.specs.FileSettings.{AreInRange, are_same}
 use Rattle.exh_settings.specs.declared.file_settings.FileSettings.{FileSettings}
 use Rattle.exh_file.specs.FileChange.{HasMap}
 use Rattle.exh_file.specs.Opened.{OpenedState, settings_in}
-use Rattle.exh_map.specs.CallFault.{IsWardFault}
 use Rattle.exh_map.specs.Sizes.{IsOfCause, IsOfOpening}
 use Rattle.exh_map.specs.declared.store_error.StoreError.{StoreError}
 use Rattle.exh_map.specs.declared.store_error.StoreError.TheVariants.{AboveLimit, Exists, OldVersion, ReadOnly, Settings, Unheld, Unsynchronized, Vanished}
