@@ -1,16 +1,13 @@
 -- What a save may replace, by a file that was opened before.
-use Rattle.std.specs.Prelude.{◌≡◌, ◌≢◌, ◌⊎◌, ℕ, Bool, true, IfErr, IfOk, IfSome, IsOkAnd, IsSomeAnd, List, MatchResult, Option, string_bytes}
+use Rattle.std.specs.Prelude.{◌≡◌, ◌⊎◌, ℕ, IfErr, IfOk, IfSome, IsOkAnd, IsSomeAnd, List, MatchResult, Option, string_bytes}
 use Rattle.std.specs.declared.io.Error.{Error}
-use Rattle.exh_disk.specs.Answer.{Answer, Fails, IsHoldTold, IsTold, LeadsElsewhere, Stays, Strange}
+use Rattle.exh_disk.specs.Answer.{Answer, Fails, LeadsElsewhere, Strange}
 use Rattle.exh_disk.specs.DiskFault.{told}
 use Rattle.exh_disk.specs.Found.{IsSame, IsUnchanged}
 use Rattle.exh_disk.specs.declared.fault.Call.TheVariants.{Ask}
 use Rattle.exh_disk.specs.declared.fault.DiskFault.{DiskFault}
 use Rattle.exh_disk.specs.declared.fault.DiskFault.TheVariants.{NotAsOpened}
 use Rattle.exh_disk.specs.declared.found.Found.{Found}
-use Rattle.exh_disk.specs.declared.found.Kind.TheVariants.{Regular}
-use Rattle.exh_disk.specs.declared.lock.Lock.{Lock}
-use Rattle.exh_disk.specs.declared.lock.Lock.TheVariants.{Gone, Needless, Taken}
 use Rattle.exh_disk.specs.declared.seen.Seen.{Seen}
 
 -- This is of a file that was opened at a path: it is known by that path, and where the system said what and where it is, by
@@ -50,17 +47,3 @@ MayBeSeen answers finds seen named there = (string_bytes seen.named ≡ named)
 -- Where a file was opened it is no longer, as it was: its path leads elsewhere, or what is there is another file or changed.
 abbrev pub IsGone : (List ℕ → List ℕ → Type 0) → (Answer → Type 0) → List ℕ → List ℕ → Type 0
 IsGone leads answers named path = LeadsElsewhere leads answers named path ⊎ answers (Strange path)
-
--- What taking a lock came to: it is had while the file stands at its path without links, as it was; or the file is no regular
--- one, or no longer there as it was.
-abbrev pub IsLocked : {O H : Type 0} → (List ℕ → List ℕ → Type 0) → (Answer → Type 0) → (H → List ℕ → Bool) → Seen O → Lock H → Type 0
-IsLocked leads answers stands seen (Taken held) = IsOkAnd seen.about (λ about. (about.found.kind ≡ Regular) × (stands held (string_bytes about.path) ≡ true)
-    × answers (Stays (string_bytes about.path) about.found))
-IsLocked leads answers stands seen Needless = IsOkAnd seen.about (λ about. about.found.kind ≢ Regular)
-IsLocked leads answers stands seen Gone = IsOkAnd seen.about (λ about. (about.found.kind ≡ Regular) × IsGone leads answers (string_bytes seen.named) (string_bytes about.path))
-
--- why it wasn't taken: the system said not what the file was, or a call failed
-abbrev pub IsUnlocked : {O : Type 0} → (Answer → Type 0) → Seen O → DiskFault → Type 0
-IsUnlocked answers seen fault = MatchResult seen.about
-    (λ about. (about.found.kind ≡ Regular) × (IsTold answers Ask fault ⊎ IsHoldTold answers fault))
-    (λ error. fault ≡ told Ask error)

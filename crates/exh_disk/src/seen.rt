@@ -5,9 +5,9 @@ ghost use Rattle.std.specs.declared.io.ErrorKind.TheVariants.{OutOfMemory};
 ghost use Rattle.exh_disk.specs.Answer.{Fails};
 ghost use Rattle.exh_disk.specs.Found.{IsSame, IsUnchanged};
 ghost use Rattle.exh_disk.specs.declared.fault.DiskFault.TheVariants.{NotAsOpened};
-ghost use Rattle.exh_disk.specs.Seen.{IsAt, IsKept, IsLocked, IsSeenAt, IsUnlocked, MayBeSeen, MayReplace};
+ghost use Rattle.exh_disk.specs.Seen.{IsAt, IsKept, IsSeenAt, MayBeSeen, MayReplace};
 
-use crate::{Call, Disk, DiskFault, Found, Kind, Lock, hold, leads_to};
+use crate::{Call, Disk, DiskFault, Found};
 use std::alloc::Global;
 use std::io;
 use std::io::ErrorKind;
@@ -60,38 +60,6 @@ impl<O: Drop> Seen<O> {
         ensures { result.now ≡ self.now.opened }
     {
         &self.opened
-    }
-
-    /// Takes the lock of a regular file that was opened, which lasts until this is dropped too, and says whether the file
-    /// is then still at its path as it was.
-    ///
-    /// `Busy`: another run has the lock. `System`: the system doesn't say what is there, or has no locks.
-    pub fn lock<D: Disk<Opened = O>>(
-        &self,
-        alloc: Global,
-        disk: &mut D,
-    ) -> Result<Lock<D::Held>, DiskFault>
-        ensures ok { IfOk result (IsLocked D.leads D.answers D.stands self.now) }
-        ensures err { IfErr result (IsUnlocked D.answers self.now) }
-        ensures crash { D.history disk.new ≡ D.history disk.old }
-    {
-        let about = match &self.about {
-            Ok(about) => about,
-            Err(error) => return Err(DiskFault::at(Call::Ask, *error)),
-        };
-        if about.found.kind != Kind::Regular {
-            return Ok(Lock::Needless);
-        }
-        let mut held = hold(disk, &self.opened)?;
-        if !leads_to(alloc, disk, &self.named, &about.path)? {
-            return Ok(Lock::Gone);
-        }
-        match disk.confirm_old(&mut held, &about.path, &about.found) {
-            Ok(true) => Ok(Lock::Taken(held)),
-            Ok(false) => Ok(Lock::Gone),
-            Err(error) if error.kind() == ErrorKind::NotFound => Ok(Lock::Gone),
-            Err(error) => Err(DiskFault::at(Call::Ask, error)),
-        }
     }
 
     /// Whether what is to be saved to is where the file was opened, or is this file.

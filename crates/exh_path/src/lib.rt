@@ -1,7 +1,7 @@
 //! The page file of a path: wards are saved there so that the file that was there is never lost.
 #![tactic(auto)]
 
-pub use exh_disk::{DiskFault, Lock, Seen};
+pub use exh_disk::{DiskFault, Seen};
 pub use opening::open_above;
 pub use path::{look_at, save_at};
 pub use system_disk::{OpenedFile, SystemDisk, SystemFile, SystemHeld};

@@ -8,7 +8,7 @@ pub use front::{Front, front_of};
 pub use in_place_fault::InPlaceFault;
 pub use page_log::PageLog;
 pub use read_state::{Begun, ReadState, begin_reading};
-pub use said::{INPUT, Reason, tell_reason, tell_unprinted, with_reason};
+pub use said::{INPUT, Reason, tell_reason, with_reason};
 pub use size_limit::{AboveLimit, above_limit, file_size_limit};
 pub use stamp::draw_stamp;
 pub use writers_lock::{lock_soon, share_soon};

@@ -28,10 +28,3 @@ pub fn tell_reason(rt: &impl Eprint, what: &str, reason: &Reason) {
         let _ = eprintln!(rt; "exhash: {what}: {error}");
     }
 }
-
-/// Says that what a call left is saved at a path, but why its answer wasn't printed, where there is a reason.
-pub fn tell_unprinted(rt: &impl Eprint, path: &str, reason: &Reason) {
-    if let Some(error) = reason.get() {
-        let _ = eprintln!(rt; "exhash: saved to {path:?}, but its answer isn't printed: {error}");
-    }
-}
