@@ -1,3 +1,5 @@
+-- of gathering: wards that aren't counted
+pub mod Left
 -- of counting: the longest prefix
 pub mod Longest
 -- of gathering: pages whose shapes are gathered

@@ -54,9 +54,16 @@ fn merged(file: Opened<FileStore>, key: u8) -> Result<Opened<FileStore>, Fail> {
     }
 }
 
+// The numbers of a file that is of this version.
+fn counted(alloc: Global, version: u8, file: Opened<FileStore>) -> Result<Stats, Fail> {
+    let settings = file.settings();
+    let mut wards = file.into_wards();
+    Ok(stats_of(alloc, version, settings, &mut wards)?)
+}
+
 // The numbers of two pages, of prefixes 0 and 1, with two records and one.
 fn stats_of_three(alloc: Global) -> Result<Stats, Fail> {
-    Ok(stats_of(alloc, 3, three_keys(alloc, 0)?)?)
+    counted(alloc, 3, three_keys(alloc, 0)?)
 }
 
 #[test]
@@ -104,7 +111,7 @@ fn three_keys_as_json(rt: HostRuntime) -> Result<(), Fail> {
 #[test]
 fn a_forwarding_page_is_counted(rt: HostRuntime) -> Result<(), Fail> {
     let file = merged(three_keys(rt.alloc(), 0)?, 0x80)?;
-    let stats = stats_of(rt.alloc(), 2, file)?;
+    let stats = counted(rt.alloc(), 2, file)?;
     assert_eq!(rt; stats.version, 2);
     assert_eq!(rt; stats.records, 2);
     assert_eq!(rt; stats.live, 1);
@@ -118,7 +125,7 @@ fn a_forwarding_page_is_counted(rt: HostRuntime) -> Result<(), Fail> {
 
 #[test]
 fn two_wards_are_counted(rt: HostRuntime) -> Result<(), Fail> {
-    let stats = stats_of(rt.alloc(), 3, three_keys(rt.alloc(), 1)?)?;
+    let stats = counted(rt.alloc(), 3, three_keys(rt.alloc(), 1)?)?;
     let expected = [
         WardCounts {
             pages: 1,

@@ -1,9 +1,10 @@
 //! What is counted of the pages of wards.
-ghost use Rattle.std.specs.Prelude.{◌≡◌, ◌∷◌, [], ◌++◌, ◌≤◌, ◌^◌, length, map, IfOk, OnOk};
+ghost use Rattle.std.specs.Prelude.{◌≡◌, ◌∷◌, [], ◌++◌, ◌≤◌, ◌^◌, length, map, IfErr, IfOk, OnOk};
 ghost use Rattle.exh_file.specs.Opened.{AreWardsOf, in_file};
 ghost use Rattle.exh_keyer.specs.declared.any_keyer.AnyKeyer.{AnyKeyer as AnyKeyerType};
 ghost use Rattle.exh_page.specs.declared.page.TheConstants.{CAP_LIMIT};
 ghost use Rattle.exh_settings.specs.declared.file_settings.FileSettings.{FileSettings};
+ghost use Rattle.exh_stats.specs.Reach.{AreLeft, IsWardLeft};
 ghost use Rattle.exh_stats.specs.Shape.{shape_of};
 ghost use Rattle.exh_stats.specs.Stats.{shapes_in, ward_counts_of};
 
@@ -22,7 +23,7 @@ pub(crate) struct WardShapes {
 
 /// Gathers it of the wards of a file. It takes memory for some bytes a page.
 ///
-/// `Memory`: a growth was refused. `Page`: a page is out of reach.
+/// `Memory`: a growth was refused. `Page`: a page is out of reach, which its ward has counted.
 pub(crate) fn gathered<P: Pages + Drop>(
     alloc: Global,
     wards: &mut Vec<Ward<P, AnyKeyer>>,
@@ -31,6 +32,8 @@ pub(crate) fn gathered<P: Pages + Drop>(
     ensures shapes { IfOk result (λ gathered. gathered.shapes.items ≡ shapes_in wards.old.items) }
     ensures wards { IfOk result (λ gathered. gathered.wards.items ≡ map (λ ward. ward_counts_of (map shape_of ward.pages)) wards.old.items) }
     ensures few { IfOk result (λ gathered. length gathered.shapes.items ≤ 2 ^ 24) }
+    ensures same { OnOk result (wards.new.items ≡ wards.old.items) }
+    ensures err { IfErr result (AreLeft wards.old.items wards.new.items) }
 {
     let mut shapes = Vec::new(alloc);
     let mut counts = Vec::new(alloc);
@@ -54,6 +57,7 @@ fn shapes_in<P: Pages + Drop>(
     ensures shapes { IfOk result (λ shapes. shapes.items ≡ map shape_of ward.old.pages) }
     ensures few { IfOk result (λ shapes. length shapes.items ≤ 2 ^ 20) }
     ensures same { OnOk result (ward.new ≡ ward.old) }
+    ensures err { IfErr result (IsWardLeft ward.old ward.new) }
 {
     let mut shapes = Vec::new(alloc);
     'pages: for number in 0..ward.page_count() {

@@ -29,7 +29,9 @@ impl Reading for StatsReading {
     fn read(&mut self, file: &File) -> Result<Stats, StoreError> {
         let (opened, form) = read_whole(self.alloc, file)?;
         let version = version_of(file, &form)?;
-        Ok(stats_of(self.alloc, version, opened)?)
+        let settings = opened.settings();
+        let mut wards = opened.into_wards();
+        Ok(stats_of(self.alloc, version, settings, &mut wards)?)
     }
 }
 

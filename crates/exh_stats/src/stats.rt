@@ -1,4 +1,6 @@
-ghost use Rattle.std.specs.Prelude.{◌≡◌, IfOk};
+ghost use Rattle.std.specs.Prelude.{◌≡◌, IfErr, IfOk, OnOk};
+ghost use Rattle.exh_file.specs.Opened.{AreWardsOf, in_file};
+ghost use Rattle.exh_stats.specs.Reach.{AreLeft};
 ghost use Rattle.exh_stats.specs.Stats.{AreStatsOf};
 
 use crate::WardCounts;
@@ -7,12 +9,11 @@ use crate::counting::{
     live_count, longest, record_count,
 };
 use crate::gathering::gathered;
-use exh_file::Opened;
 use exh_keyer::AnyKeyer;
 use exh_prefix::Prefix;
 use exh_settings::FileSettings;
 use exh_stores::Pages;
-use exh_ward::WardFault;
+use exh_ward::{Ward, WardFault};
 use std::alloc::Global;
 
 /// How many numbers of records a page may have: 0 to 16.
@@ -48,19 +49,21 @@ pub struct Stats {
     pub wards: Vec<WardCounts>,
 }
 
-/// How much the file of these wards has, which is of this version. It takes memory for some bytes a page.
+/// How much the file of these wards and settings has, which is of this version. It takes memory for some bytes a page.
 ///
-/// `Memory`: a growth was refused. `Page`: a page is out of reach.
+/// `Memory`: a growth was refused. `Page`: a page is out of reach, which its ward has counted.
 pub fn stats_of<P: Pages + Drop>(
     alloc: Global,
     version: u8,
-    opened: Opened<P>,
+    settings: FileSettings<AnyKeyer>,
+    wards: &mut Vec<Ward<P, AnyKeyer>>,
 ) -> Result<Stats, WardFault>
-    ensures { IfOk result (AreStatsOf version opened) }
+    requires { AreWardsOf (in_file settings wards.old.items) }
+    ensures stats { IfOk result (AreStatsOf version (in_file settings wards.old.items)) }
+    ensures same { OnOk result (wards.new.items ≡ wards.old.items) }
+    ensures err { IfErr result (AreLeft wards.old.items wards.new.items) }
 {
-    let settings = opened.settings();
-    let mut wards = opened.into_wards();
-    let gathered = gathered(alloc, &mut wards)?;
+    let gathered = gathered(alloc, wards)?;
     let shapes = gathered.shapes.as_slice();
     Ok(Stats {
         version,
