@@ -3,4 +3,5 @@ pub mod Compacts
 pub mod Counts
 pub mod Exports
 pub mod Imports
+pub mod Laws
 pub mod Salvages

@@ -6,6 +6,7 @@ pub use compacting::compact;
 pub use counting::stats;
 pub use exporting::export;
 pub use importing::import;
+pub use laws::{exports_are_imported, exports_are_whole, exports_give_their_map};
 pub use salvaging::salvage;
 
 mod compacting;
@@ -14,6 +15,7 @@ mod exporting;
 mod import_ending;
 mod import_refusal;
 mod importing;
+mod laws;
 mod open_blocks;
 mod outcome;
 mod pair_store;

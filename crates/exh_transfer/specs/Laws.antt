@@ -1,0 +1,77 @@
+-- What holds of each export that is imported.
+use Rattle.std.specs.Prelude.{◌≡◌, ◌⊎◌, ◌<◌, ◌+◌, ◌^◌, ℕ, Bool, true, false, List, length, All, Option, Some, None}
+use Rattle.std.specs.FinMap.{empty, from_entries}
+use Rattle.exh_page.specs.KeyMap.{KeyMap}
+use Rattle.exh_pair_text.specs.Laws.{IsPair}
+use Rattle.exh_pair_text.specs.Parts.{parts_of, usual}
+use Rattle.exh_import.specs.declared.imported.Imported.{Imported}
+use Rattle.exh_import.specs.declared.imported_store.Added.{Added}
+use Rattle.exh_import.specs.declared.options.ImportOptions.{ImportOptions}
+use Rattle.exh_import.specs.declared.rejection.Rejection.{Rejection}
+use Rattle.exh_import.specs.Imports.{Imports, IsTextOf}
+use Rattle.exh_import.specs.Pairs.{pairs_put}
+use Rattle.exh_file.specs.FileChange.{HasMap}
+use Rattle.exh_map.specs.Pairs.{AreOnce}
+use Rattle.exhash.specs.declared.store.Store.{Store}
+use Rattle.exh_transfer.specs.Exports.{export_text}
+use Rattle.exh_transfer.specs.Imports.{IsAddedTo, KeepsPairs}
+
+-- keys and values, as many as 64 bits count
+pub record ArePairs (pairs : List (List ℕ × List ℕ)) : Type 0 where
+  pub each : All (λ pair. IsPair pair.0 pair.1) pairs
+  pub few : length pairs < 2 ^ 64
+
+-- the usual layout, and nothing taken before
+pub record AreUsual (options : ImportOptions) : Type 0 where
+  pub layout : parts_of options.layout ≡ usual
+  pub begun : options.begun ≡ record { is_opened = false; has_header = false }
+
+-- what an export of pairs prints in the format of these options, in hexadecimal as they say
+abbrev pub printed_for : ImportOptions → Bool → List (List ℕ × List ℕ) → List ℕ
+printed_for options bare pairs = export_text options.format options.is_hex bare pairs
+
+-- the lines of that
+pub record AreExported (options : ImportOptions) (bare : Bool) (pairs : List (List ℕ × List ℕ)) (lines : List (List ℕ)) : Type 0 where
+  pub usual_are : AreUsual options
+  pub pairs_are : ArePairs pairs
+  pub text : IsTextOf options.format lines (printed_for options bare pairs)
+
+-- there are such lines
+abbrev pub ExportsHaveLines : Type 0
+ExportsHaveLines = (options : ImportOptions) (bare : Bool) (pairs : List (List ℕ × List ℕ)) → ArePairs pairs → (lines : List (List ℕ)) × IsTextOf options.format lines (printed_for options bare pairs)
+
+-- the pairs that are put are those that were exported, in their order
+abbrev pub ExportsAreImported : Type 0
+ExportsAreImported = (options : ImportOptions) (bare : Bool) (pairs : List (List ℕ × List ℕ)) (lines : List (List ℕ)) → AreExported options bare pairs lines → pairs_put options lines ≡ pairs
+
+-- no line was rejected and no end is missing, and so many were put or found no room
+pub record IsWhole (count : ℕ) (imported : Imported) : Type 0 where
+  pub rejected : imported.rejected ≡ 0
+  pub cut_off : imported.is_cut_off ≡ false
+  pub told : imported.pairs + imported.full ≡ count
+
+-- into any store
+module _ {S L : Type 0} (gives : S → List ℕ → List ℕ → Added → S → Type 0) (saves rests : S → S → Type 0) (told : L → ℕ → Rejection → List ℕ → L → Type 0) where
+  abbrev pub ExportsAreWhole : Type 0
+  ExportsAreWhole = (options : ImportOptions) (bare : Bool) (pairs : List (List ℕ × List ℕ)) (lines : List (List ℕ)) (store store' : S) (listener listener' : L) (imported : Imported) → AreExported options bare pairs lines
+      → Imports gives saves rests told options lines store listener imported store' listener' → IsWhole (length pairs) imported
+
+-- the store that is held has this map
+abbrev pub HasMapHeld : Option Store → KeyMap → Type 0
+HasMapHeld None whole = ⊥
+HasMapHeld (Some store) whole = HasMap store.map whole
+
+module _ {S L : Type 0} (gives : S → List ℕ → List ℕ → Added → S → Type 0) (saves rests : S → S → Type 0) (told : L → ℕ → Rejection → List ℕ → L → Type 0) where
+  -- a put is one into the map of the store that is held, and a commit keeps that
+  pub record HoldsOneMap (held : S → Option Store) : Type 0 where
+    pub puts : (old new : S) (key value : List ℕ) (added : Added) → gives old key value added new → IsAddedTo (held old) key value added (held new)
+    pub commits : (old new : S) → saves old new → KeepsPairs (held old) (held new)
+
+  -- all pairs are committed at once, or nobody else changes the map while the store rests
+  abbrev pub IsAlone : ImportOptions → (S → Option Store) → Type 0
+  IsAlone options held = (options.is_atomic ≡ true) ⊎ ((old new : S) → rests old new → KeepsPairs (held old) (held new))
+
+  -- a store without pairs has the map of those that were exported, where no key stands twice among them and none found no room
+  abbrev pub ExportsGiveTheirMap : Type 0
+  ExportsGiveTheirMap = (held : S → Option Store) (options : ImportOptions) (bare : Bool) (pairs : List (List ℕ × List ℕ)) (lines : List (List ℕ)) (store store' : S) (listener listener' : L) (imported : Imported) → HoldsOneMap held → IsAlone options held
+      → AreExported options bare pairs lines → AreOnce pairs → HasMapHeld (held store) empty → Imports gives saves rests told options lines store listener imported store' listener' → imported.full ≡ 0 → HasMapHeld (held store') (from_entries pairs)
