@@ -4,3 +4,4 @@ pub mod Counts
 pub mod Exports
 pub mod Imports
 pub mod Salvages
+pub mod SalvageLaws

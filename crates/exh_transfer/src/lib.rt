@@ -6,6 +6,7 @@ pub use compacting::compact;
 pub use counting::stats;
 pub use exporting::export;
 pub use importing::import;
+pub use salvage_laws::legal_files_are_saved;
 pub use salvaging::salvage;
 
 mod compacting;
@@ -20,5 +21,6 @@ mod pair_store;
 mod progress;
 mod rejected;
 mod rejects_file;
+mod salvage_laws;
 mod salvage_notes;
 mod salvaging;
