@@ -11,3 +11,12 @@ pub mod Amid
 pub mod Counts
 pub mod Filled
 pub mod StoreMaps
+-- a salvage of a legal file
+mod SavedBlocks
+mod NoPages
+mod PlacedBlocks
+mod EntryNumbers
+mod PlainBlocks
+mod KeyClasses
+mod WardKeys
+mod SavedMaps

@@ -5,3 +5,4 @@ pub mod Exports
 pub mod Imports
 pub mod Laws
 pub mod Salvages
+pub mod SalvageLaws

@@ -7,6 +7,7 @@ pub use counting::stats;
 pub use exporting::export;
 pub use importing::import;
 pub use laws::{exports_are_imported, exports_are_whole, exports_give_their_map};
+pub use salvage_laws::legal_files_are_saved;
 pub use salvaging::salvage;
 
 mod compacting;
@@ -22,5 +23,6 @@ mod pair_store;
 mod progress;
 mod rejected;
 mod rejects_file;
+mod salvage_laws;
 mod salvage_notes;
 mod salvaging;
