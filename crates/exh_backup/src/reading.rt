@@ -5,7 +5,12 @@ ghost use Rattle.exh_map.specs.Sizes.{IsOfOpening};
 use crate::source::opened_at;
 use exh_in_place::{Reading, Refused, hold_still, read_one_state};
 use exh_map::StoreError;
-use exh_system::InPlaceFault;
+use exh_system::{InPlaceFault, pause_after};
+use std::thread::sleep;
+use std::time::{Duration, Instant};
+
+// How many of the least pauses fit into a second.
+const PAUSES: u64 = 500;
 
 /// What a reading finds in one state of the file of a path. Writers are kept from it while it is read; where one has its
 /// lock, it is read beside that one, as `read_beside` reads it.
@@ -26,11 +31,11 @@ pub fn read_still<R: Reading>(
     }
 }
 
-/// What a reading finds in one state of the file of a path, beside writers. Where one changes it during two readings, it waits
-/// so many seconds for their lock, and keeps them from the file while it is read once more.
+/// What a reading finds in one state of the file of a path, beside writers. For so many seconds it is read twice without their
+/// lock, and, where it was changed meanwhile and the lock is free, once under it, by turns.
 ///
-/// `Absent`: nothing is there, or an empty file. `Busy`: it was changed, and writers had the lock all the while. Others: it
-/// isn't opened, as they say.
+/// `Absent`: nothing is there, or an empty file. `Busy`: it was changed all the while, and the lock never free when asked for.
+/// Others: it isn't opened, as they say.
 pub fn read_beside<R: Reading>(
     rt: &HostRuntime,
     path: &str,
@@ -40,15 +45,28 @@ pub fn read_beside<R: Reading>(
     ensures found { IfOk result R.gives }
     ensures err { IfErr result IsOfOpening }
 {
-    match read_one_state(rt, path, reading, 0) {
-        Ok(found) => return Ok(found),
-        Err(Refused::Unfit(InPlaceFault::Restless)) => {}
-        Err(refused) => return Err(StoreError::from(refused)),
+    let start = Instant::now(rt)?;
+    for _turn in 0..turns_within(seconds) {
+        match read_one_state(rt, path, reading, 0) {
+            Ok(found) => return Ok(found),
+            Err(Refused::Unfit(InPlaceFault::Restless)) => {}
+            Err(refused) => return Err(StoreError::from(refused)),
+        }
+        if let Some(found) = read_held(rt, path, reading, 0)? {
+            return Ok(found);
+        }
+        let passed = start.elapsed(rt)?;
+        if passed >= Duration::from_secs(seconds) {
+            break;
+        }
+        sleep(rt, pause_after(passed));
     }
-    match read_held(rt, path, reading, seconds)? {
-        Some(found) => Ok(found),
-        None => Err(StoreError::Busy),
-    }
+    Err(StoreError::Busy)
+}
+
+// How often it is read so at most: once, and again behind each of the least pauses, of two milliseconds.
+fn turns_within(seconds: u64) -> u64 {
+    seconds.saturating_mul(PAUSES).saturating_add(1)
 }
 
 // What a reading finds in the file of a path while writers are kept from it. `None`: one had its lock for so many seconds.
