@@ -7,12 +7,12 @@ use crate::open_file::{OpenFile, SystemFile};
 use crate::wanted::Wanted;
 use exh_backup::unread_at;
 use exh_direct::DirectFault;
-use exh_in_place::{Reading, read_one_state};
+use exh_in_place::Reading;
 use exh_page::{Key, Value};
 use exh_run::Run;
 use exh_system::Reason;
 use exh_walked::find_any;
-use exhash::StoreError;
+use exhash::{StoreError, read_beside};
 use std::alloc::Global;
 use std::cell::Cell;
 use std::fs::File;
@@ -39,14 +39,14 @@ fn values_of<W: Wanted>(run: &Run<'_>, keys: &[Key]) -> Result<Found, StoreError
         reason: &reason,
         of: PhantomData,
     };
-    match read_one_state(run.rt, run.path, &mut reading, run.seconds) {
+    match read_beside(run.rt, run.path, &mut reading, run.seconds) {
         Ok(Ok(found)) => Ok(found),
         Ok(Err(fault)) => Err(unread_at(
             run.rt,
             run.path,
             StoreError::of_finding(fault, reason.get()),
         )),
-        Err(refused) => Err(unread_at(run.rt, run.path, StoreError::from(refused))),
+        Err(fault) => Err(unread_at(run.rt, run.path, fault)),
     }
 }
 

@@ -11,9 +11,9 @@ use std::io::ErrorKind;
 use std::os::unix::fs::MetadataExt;
 use std::{fs, io};
 
-// A name of a file has at most 255 bytes. That of a log has four more than the page file's, and that of a journal, which the
-// pager looks for, eight.
-const NAME_LIMIT: usize = 247;
+/// The most bytes of the name of a page file that is changed in place. A name has at most 255; that of a log has four more
+/// than the page file's, and that of a journal, which the pager looks for, eight.
+pub const NAME_LIMIT: usize = 247;
 
 /// Whether an open file is at a path without links, as the system says it.
 ///

@@ -3,7 +3,7 @@
 
 pub use exh_path::{WAIT, pause_after};
 pub use file_blocks::{FileBlocks, open_regular};
-pub use fit::{is_at, see_fit};
+pub use fit::{NAME_LIMIT, is_at, see_fit};
 pub use front::{Front, front_of};
 pub use in_place_fault::InPlaceFault;
 pub use page_log::PageLog;

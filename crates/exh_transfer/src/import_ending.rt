@@ -165,8 +165,11 @@ fn refuse_store(run: &Run<'_>, fault: StoreError, pairs: u64, is_made: bool) -> 
 {
     let is_sure = !matches!(fault, StoreError::Unsure(_));
     let status = refuse_change(run, fault);
-    if pairs > 0 || is_sure {
+    if is_sure {
         tell_pairs(run, pairs, is_made);
+    } else {
+        let path = Escaped(run.path);
+        let _ = eprintln!(run.rt; "exhash: {path}: {pairs} pairs were put in before that change");
     }
     status
 }

@@ -12,10 +12,10 @@ use crate::rejected::Rejected;
 use crate::rejects_file::RejectsFile;
 use exh_answer::Status;
 use exh_import::{Begun, Heading, ImportFault, ImportOptions, Imported, LineReader, take_heading};
-use exh_notes::ReasonReader;
+use exh_notes::{Escaped, ReasonReader};
 use exh_pair_text::{Columns, FieldNames, Layout};
 use exh_request::{GivenTexts, ImportWords};
-use exh_run::{Run, tell_refused};
+use exh_run::{Run, is_for_log, tell_refused};
 use exh_stream::Output;
 use exh_system::Reason;
 use exhash::{Settings, Store, StoreError, make};
@@ -198,6 +198,13 @@ fn rejects_at<'w>(
     let Some(path) = path else {
         return Ok(None);
     };
+    if is_for_log(run, path) {
+        let name = Escaped(path);
+        let _ = eprintln!(run.rt;
+            "exhash: {name}: the page file's log has this name: name another file"
+        );
+        return Err(StoreError::Exists);
+    }
     match RejectsFile::made(run.rt, path) {
         Ok(file) => Ok(Some(file)),
         Err(fault) => {

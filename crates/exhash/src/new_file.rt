@@ -5,13 +5,14 @@ ghost use Rattle.exh_map.specs.declared.store_error.StoreError.TheVariants.{Exis
 ghost use Rattle.exh_settings.specs.FileSettings.{AreInRange};
 ghost use Rattle.exhash.specs.Store.{IsOfFile, IsOfMaking, IsOfNew};
 
+use exh_disk::file_name_of;
 use exh_file::{Draft, Opened, Stamps};
 use exh_frames::{FileStore, MAKER};
 use exh_map::{Settings, StoreError};
 use exh_path::{OpenedFile, SystemDisk, SystemFile, open_above, save_at};
 use exh_saving::Saved;
 use exh_stream::{Console, Meter, Unit, Work};
-use exh_system::draw_stamp;
+use exh_system::{InPlaceFault, NAME_LIMIT, draw_stamp};
 use exh_ward::new_wards;
 use std::fs::{File, OpenOptions};
 use std::io::{ErrorKind, Stderr};
@@ -21,12 +22,13 @@ use std::{fs, io};
 /// file may be left.
 ///
 /// `Settings`: these are no file's. `Exists`: something is there. `Unsynchronized`: it is made, but a power failure may take it
-/// away. Others: it isn't made, as they say.
+/// away. `Unfit` with `LongName`: its name leaves no room for that of its log. Others: it isn't made, as they say.
 pub fn make(rt: &HostRuntime, path: &str, settings: Settings) -> Result<(), StoreError>
     ensures settings { (AreInRange settings → ⊥) → result ≡ Err SettingsFault }
     ensures refused { IfErr result (IsOfMaking settings) }
 {
     let draft = empty_draft(rt, settings)?;
+    see_name(path)?;
     let claimed = claim(rt, path)?;
     let seen = SystemDisk::new(rt).seen(path, claimed)?;
     match save_draft(rt, path, Some(&seen), draft) {
@@ -62,6 +64,16 @@ pub(crate) fn draft_anew(
         before: draw_stamp(rt)?,
     };
     Ok(Draft::anew(rt.alloc(), wards, stamps)?)
+}
+
+// Sees that the name of a path's file leaves room for that of its log.
+fn see_name(path: &str) -> Result<(), StoreError>
+    ensures { IfErr result IsOfCause }
+{
+    if file_name_of(path).len() > NAME_LIMIT {
+        return Err(StoreError::Unfit(InPlaceFault::LongName));
+    }
+    Ok(())
 }
 
 // An empty file at a path, which of several processes one alone replaces.

@@ -1,14 +1,13 @@
 //! Page files that are read whole.
-ghost use Rattle.std.specs.Prelude.{IfErr, IfOk};
+ghost use Rattle.std.specs.Prelude.{IfErr};
 ghost use Rattle.exh_map.specs.Sizes.{IsOfCause, IsOfOpening, IsOther};
 
-use exh_backup::opened_at;
+use exh_backup::{opened_at, read_still};
 use exh_file::{FileForm, Opened, open_form};
 use exh_frames::FileStore;
-use exh_in_place::{Reading, Refused, hold_still, read_one_state};
+use exh_in_place::Reading;
 use exh_map::StoreError;
 use exh_notes::ReasonReader;
-use exh_system::InPlaceFault;
 use std::alloc::Global;
 use std::cell::Cell;
 use std::fs::File;
@@ -66,26 +65,4 @@ pub(crate) fn read_opened(
     let found = read_still(rt, path, &mut reading, seconds)?;
     let (opened, _form) = found?;
     Ok(opened)
-}
-
-/// What a reading finds in one state of the file of a path. Writers are kept from it while it is read, unless one has its
-/// lock: then it is read beside, again and again, for so many seconds.
-///
-/// `Absent`: nothing is there, or an empty file. `Changed`: it was being changed all the while. Others: it isn't opened, as
-/// they say.
-pub fn read_still<R: Reading>(
-    rt: &HostRuntime,
-    path: &str,
-    reading: &mut R,
-    seconds: u64,
-) -> Result<R::Found, StoreError>
-    ensures found { IfOk result R.gives }
-    ensures err { IfErr result IsOfOpening }
-{
-    let file = opened_at(rt, path)?;
-    match hold_still(rt, path, &file, 0) {
-        Ok(_) => Ok(reading.read(&file)),
-        Err(Refused::Unfit(InPlaceFault::Busy)) => Ok(read_one_state(rt, path, reading, seconds)?),
-        Err(refused) => Err(StoreError::from(refused)),
-    }
 }
