@@ -11,6 +11,7 @@ pub mod Amid
 pub mod Counts
 pub mod Filled
 pub mod StoreMaps
+pub mod MachineMaps
 -- a salvage of a legal file
 mod SavedBlocks
 mod NoPages

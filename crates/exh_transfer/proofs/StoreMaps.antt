@@ -29,14 +29,14 @@ put_sets true None key value whole put is said = let none = subst (λ (p : PutAn
 put_in : (whole : KeyMap) (old new : Option Store) (key value : List ℕ) → HasMapHeld old whole → IsAddedTo old key value added.Put new → HasMapHeld new (fin.insert whole key value)
 put_in whole None new key value holds is = absurd holds
 put_in whole (Some old) None key value holds is = absurd is
-put_in whole (Some old) (Some new) key value holds (put, (is, said)) =
+put_in whole (Some old) (Some new) key value holds (put, (is, (said, same))) =
     let of = is whole holds in
     subst (HasMap new.map) (put_sets (is_full old.map.cap (any_pseudokey old.map.keyer) whole key) (fin.get whole key) key value whole put of.answer_is said) of.map
 
 kept : (whole : KeyMap) (old new : Option Store) → HasMapHeld old whole → KeepsPairs old new → HasMapHeld new whole
 kept whole None new holds keeps = absurd holds
 kept whole (Some old) None holds keeps = absurd keeps
-kept whole (Some old) (Some new) holds keeps = keeps whole holds
+kept whole (Some old) (Some new) holds keeps = keeps.0 whole holds
 
 module _ {S L : Type 0} (gives : S → List ℕ → List ℕ → Added → S → Type 0) (saves rests : S → S → Type 0) (told : L → ℕ → Rejection → List ℕ → L → Type 0) where
   kept_behind : (options : ImportOptions) (held : S → Option Store) → IsAlone gives saves rests told options held → (options.is_atomic ≡ true) ⊎ ((whole : KeyMap) (old new : S) → HasMapHeld (held old) whole → rests old new → HasMapHeld (held new) whole)

@@ -2,7 +2,7 @@
 use Rattle.std.specs.Prelude.{◌≡◌, ◌+◌, ◌==◌, ◌&&◌, ℕ, Bool, List, ◌++◌, codes, decimal, min, Option, Some, None, is_some, Result, Ok, Err, IsTrue, if◌then◌else◌}
 use Rattle.exh_answer.specs.declared.status.Status.{Status}
 use Rattle.exh_answer.specs.declared.status.Status.TheVariants.{Done, Missing, Partly, Refused}
-use Rattle.exh_file.specs.Opened.{OpenedState}
+use Rattle.exh_file.specs.Opened.{OpenedState, settings_in}
 use Rattle.exh_import.specs.declared.imported_store.Added.{Added}
 use Rattle.exh_import.specs.declared.imported_store.Added.TheVariants as added
 use Rattle.exh_import.specs.declared.imported.Imported.{Imported}
@@ -17,6 +17,7 @@ use Rattle.exh_run.specs.Ends.{Ended, Ends, Says, Silent, change_status, unmade_
 use Rattle.exh_transfer.specs.declared.import_refusal.ImportRefusal.{ImportRefusal}
 use Rattle.exh_transfer.specs.declared.import_refusal.ImportRefusal.TheVariants.{Store as Halted, Text, Unmade, Unopened}
 use Rattle.exh_transfer.specs.declared.outcome.Outcome.{Outcome}
+use Rattle.exh_transfer.specs.declared.pair_store.PairStore.{PairStore}
 
 -- a pair is put, or finds no room
 abbrev pub added_of : Put → Added
@@ -24,24 +25,34 @@ added_of put.New = added.Put
 added_of (put.Was value) = added.Put
 added_of put.Full = added.Full
 
--- it is put into a store's one map, which has another one then
+-- it is put into a store's one map, which has another one then, and the same settings
 abbrev pub IsAdded : OpenedState → List ℕ → List ℕ → Added → OpenedState → Type 0
-IsAdded before key value said after = (put : Put) × (IsPut before key value put after × (said ≡ added_of put))
+IsAdded before key value said after = (put : Put) × (IsPut before key value put after × ((said ≡ added_of put) × (settings_in after ≡ settings_in before)))
 
 -- so of the store that is held
 abbrev pub IsAddedTo : Option Store → List ℕ → List ℕ → Added → Option Store → Type 0
 IsAddedTo (Some before) key value said (Some after) = IsAdded before.map key value said after.map
 IsAddedTo before key value said after = ⊥
 
--- the store that is held keeps its map
+-- the store that is held keeps its map and its settings
 abbrev pub KeepsPairs : Option Store → Option Store → Type 0
-KeepsPairs (Some before) (Some after) = KeepsMap before.map after.map
+KeepsPairs (Some before) (Some after) = KeepsMap before.map after.map × (settings_in after.map ≡ settings_in before.map)
 KeepsPairs before after = ⊥
 
 -- a store is held, with its file
 abbrev pub IsHeldAgain : Option Store → Type 0
 IsHeldAgain None = ⊥
 IsHeldAgain (Some store) = IsHeld store.file
+
+-- the program's store takes a pair so, commits so, and rests so
+abbrev pub gives_pair : PairStore → List ℕ → List ℕ → Added → PairStore → Type 0
+gives_pair old key value said new = IsAddedTo old.store key value said new.store
+
+abbrev pub saves_pairs : PairStore → PairStore → Type 0
+saves_pairs old new = KeepsPairs old.store new.store
+
+abbrev pub rests_open : PairStore → PairStore → Type 0
+rests_open old new = IsHeldAgain new.store
 
 -- why a call was refused is kept
 abbrev pub HasRefusal : Option StoreError → Type 0

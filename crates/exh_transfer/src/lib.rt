@@ -6,7 +6,7 @@ pub use compacting::compact;
 pub use counting::stats;
 pub use exporting::export;
 pub use importing::import;
-pub use laws::{exports_are_imported, exports_are_whole, exports_give_their_map};
+pub use laws::{exports_are_imported, exports_give_their_map, imports_leave_their_map};
 pub use salvage_laws::legal_files_are_saved;
 pub use salvaging::salvage;
 

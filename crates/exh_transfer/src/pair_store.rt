@@ -1,6 +1,6 @@
 //! A store as an import sees it.
 ghost use Rattle.std.specs.Prelude.{◌≡◌};
-ghost use Rattle.exh_transfer.specs.Imports.{HasRefusal, IsAddedTo, IsHeldAgain, KeepsPairs};
+ghost use Rattle.exh_transfer.specs.Imports.{HasRefusal, gives_pair, rests_open, saves_pairs};
 
 use crate::progress::Progress;
 use exh_import::{Added, ImportedStore, Refused};
@@ -62,11 +62,11 @@ impl<'a, 'r> PairStore<'a, 'r> {
 
 // The store's one map takes the pair as the map machine says, and a commit keeps the map. Behind a rest it is what others left.
 impl ImportedStore for PairStore<'_, '_> {
-    ghost gives = { λ old key value added new. IsAddedTo old.store key value added new.store };
+    ghost gives = { gives_pair };
 
-    ghost saves = { λ old new. KeepsPairs old.store new.store };
+    ghost saves = { saves_pairs };
 
-    ghost rests = { λ old new. IsHeldAgain new.store };
+    ghost rests = { rests_open };
 
     ghost refused = { λ old new. HasRefusal new.refusal };
 

@@ -1,5 +1,5 @@
 -- What a draft of a map's wards has, and what is left of a file over which it is saved.
-use Rattle.std.proofs.Common.{◌≡◌, ℕ, Bool, List, inl, inr, refl, sym, ap, ap₂, ◌∙◌, subst}
+use Rattle.std.proofs.Common.{◌≡◌, ℕ, Bool, List, length, take, inl, inr, refl, sym, ap, ap₂, ◌∙◌, subst}
 use Rattle.std.specs.FinMap as fin
 use Rattle.sqlite_disk.specs.declared.Disk.{Ghosts}
 use Rattle.sqlite_disk.specs.Disk.{Only}
@@ -8,18 +8,20 @@ use Rattle.sqlite_wal.specs.Recovery.{Image}
 use Rattle.exh_page.specs.KeyMap.{KeyMap}
 use Rattle.exh_page.specs.declared.page.Page.{Page}
 use Rattle.exh_legal.specs.Pages.{map_of}
+use Rattle.exh_cells.specs.PlacedFile.{lows_of}
 use Rattle.exh_format.specs.PageFile.{pages_of}
 use Rattle.exh_commit.specs.FilePages.{Leaves, LeavesAlone, StandsFor}
-use Rattle.exh_file.specs.Draft.{DraftState, IsGrown, IsSaving, bytes_in}
+use Rattle.exh_file.specs.Draft.{DraftState, IsDraftSaving, IsGrown, IsSaving, bytes_in}
 use Rattle.exh_file.specs.FileChange.{HasMap}
 use Rattle.exh_file.specs.Opened.{AreWardsOf, OpenedState}
-use Rattle.exh_file.specs.Placing.{IsPlacedSaving, placed_file, tables_of_all}
+use Rattle.exh_file.specs.Placing.{IsPlacedSaving, ordered_pages, placed_file, tables_of_all}
 use Rattle.exh_file.specs.declared.placing.Form.{Form}
 use Rattle.exh_file.specs.declared.placing.Placing.{Placing}
 use Rattle.exh_file.specs.declared.placing.Stamps.{Stamps}
+use Rattle.exh_placing.specs.declared.page_at.PageAt.{PageAt}
 use Rattle.exh_paged.specs.CallChange.{HasPairs, HasStamps}
 use Rattle.exh_paged.specs.Saving.{IsOldOrSaved, IsSavedOver}
-use Rattle.exhash.specs.Commit.{Drafts, IsCommitted, IsOldOrCommitted}
+use Rattle.exhash.specs.Commit.{Drafts, DraftsPlaces, HasPlaces, IsCommitted, IsOldOrCommitted, KeepsPlaces}
 use Rattle.exh_map.proofs.AgainLemmas.{all_pairs}
 use Rattle.exh_map.proofs.WholeMap.{whole_is}
 
@@ -45,12 +47,26 @@ has_stamps opened placing stamps bytes are saving = record {
   before_is = ap (λ (s : Stamps). s.before) are;
 }
 
+-- its wards in this form are the bytes
+as_placed : (opened : OpenedState) (lows : List ℕ) (stamps : Stamps) (draft : DraftState) (grown : IsGrown opened lows stamps draft) (bytes : List ℕ) → IsDraftSaving draft bytes → IsPlacedSaving opened grown.2.placing bytes
+as_placed opened lows stamps draft grown bytes saving =
+    let so = grown.2 in
+    let own = subst (λ (wards : OpenedState). IsSaving wards draft.form bytes) so.opened_is saving in
+    subst (λ (form : Form). IsSaving opened form bytes) so.form_is own
+
 pub drafts : (opened : OpenedState) (lows : List ℕ) (stamps : Stamps) (draft : DraftState) → AreWardsOf opened → IsGrown opened lows stamps draft → (whole : KeyMap) → HasMap opened whole → Drafts whole stamps draft
 drafts opened lows stamps draft are grown whole has bytes saving =
     let so = grown.2 in
-    let own = subst (λ (wards : OpenedState). IsSaving wards draft.form bytes) so.opened_is saving in
-    let placed = subst (λ (form : Form). IsSaving opened form bytes) so.form_is own in
+    let placed = as_placed opened lows stamps draft grown bytes saving in
     (has_pairs opened are so.placing bytes whole has placed, has_stamps opened so.placing stamps bytes so.stamps_are placed)
+
+pub drafts_places : (opened : OpenedState) (lows : List ℕ) (stamps : Stamps) (draft : DraftState) → IsGrown opened lows stamps draft → DraftsPlaces lows draft
+drafts_places opened lows stamps draft grown bytes saving = record {
+  file = placed_file opened grown.2.placing;
+  tables = tables_of_all opened.wards;
+  legal = (as_placed opened lows stamps draft grown bytes saving).legal;
+  begins = subst (λ (order : List PageAt). take (length lows) (lows_of (ordered_pages opened.wards order)) ≡ lows) (sym grown.2.order_is) grown.2.begins;
+}
 
 -- ---- what is left
 
@@ -74,6 +90,16 @@ module _ (truthful : Bool) (draft : DraftState) (whole : KeyMap) (stamps : Stamp
     leaves_committed all left clean may =
         let (bytes, stands, holds) = all left clean may in
         (bytes, stands, committed bytes holds)
+
+module _ (truthful : Bool) (draft : DraftState) (lows : List ℕ) (old : List ℕ) (of : DraftsPlaces lows draft) where
+  keeps_places : (new : List ℕ) → IsSavedOver truthful draft old new → KeepsPlaces truthful lows new
+  keeps_places new saved truth = subst (λ (bytes : List ℕ). HasPlaces lows bytes) (sym (saved.drafted truth)) (of (bytes_in draft) saved.legal)
+
+  module _ {D : Type 0} (g : Ghosts D) (files : D × D) where
+    pub leaves_places : LeavesAlone g files (IsSavedOver truthful draft old) → LeavesAlone g files (KeepsPlaces truthful lows)
+    leaves_places all left clean may =
+        let (bytes, stands, holds) = all left clean may in
+        (bytes, stands, keeps_places bytes holds)
 
 -- files that nothing was done to
 pub leaves_same : {D : Type 0} (g : Ghosts D) (log db : D) (old : List ℕ) → Only (g.seen log) (g.may_leave log) → Only (g.seen db) (g.may_leave db) → StandsFor (seen_image g log db) old

@@ -1,12 +1,12 @@
 -- What a commit saves, and what a crash leaves of it.
-use Rattle.std.specs.Prelude.{◌≡◌, ◌⊎◌, Bool, ℕ, List, IsTrue}
+use Rattle.std.specs.Prelude.{◌≡◌, ◌⊎◌, Bool, ℕ, List, IsTrue, length, take}
 use Rattle.exh_keyer.specs.declared.any_keyer.AnyKeyer.{AnyKeyer}
 use Rattle.exh_table.specs.Table.{TableMap}
 use Rattle.exh_page.specs.KeyMap.{KeyMap}
 use Rattle.exh_settings.specs.declared.file_settings.FileSettings.{FileSettings}
 use Rattle.exh_format.specs.Reading.{AreBytes}
 use Rattle.exh_cells.specs.LegalPlaced.{IsLegalPlacedFile}
-use Rattle.exh_cells.specs.PlacedFile.{PlacedFile}
+use Rattle.exh_cells.specs.PlacedFile.{PlacedFile, lows_of}
 use Rattle.exh_file.specs.Draft.{DraftState, IsDraftSaving}
 use Rattle.exh_file.specs.declared.placing.Stamps.{Stamps}
 use Rattle.exh_paged.specs.CallChange.{HasPairs, HasStamps, HasState}
@@ -15,6 +15,16 @@ use Rattle.exh_walked.specs.PlacedLaws.{map_in}
 -- the draft's page file has these pairs and stamps
 abbrev pub Drafts : KeyMap → Stamps → DraftState → Type 0
 Drafts whole stamps draft = (bytes : List ℕ) → IsDraftSaving draft bytes → HasPairs bytes whole × HasStamps bytes stamps.own stamps.before
+
+-- the bytes are those of a legal page file whose first pages have these low bounds, and the draft's are
+pub record HasPlaces (lows : List ℕ) (bytes : List ℕ) : Type 0 where
+  pub file : PlacedFile
+  pub tables : List TableMap
+  pub legal : IsLegalPlacedFile file tables bytes
+  pub begins : take (length lows) (lows_of file.pages) ≡ lows
+
+abbrev pub DraftsPlaces : List ℕ → DraftState → Type 0
+DraftsPlaces lows draft = (bytes : List ℕ) → IsDraftSaving draft bytes → HasPlaces lows bytes
 
 -- the bytes are those of a legal page file of version 3 with these settings, these pairs and this stamp
 pub record IsFileOf (settings : FileSettings AnyKeyer) (pairs : KeyMap) (own : ℕ) (bytes : List ℕ) : Type 0 where
@@ -40,6 +50,10 @@ IsCommitted truthful whole stamps old new = IsTrue truthful → HasPairs new who
 
 abbrev pub IsOldOrCommitted : Bool → KeyMap → Stamps → List ℕ → List ℕ → Type 0
 IsOldOrCommitted truthful whole stamps old new = (new ≡ old) ⊎ IsCommitted truthful whole stamps old new
+
+-- the pages that had places, which are the first ones, have them
+abbrev pub KeepsPlaces : Bool → List ℕ → List ℕ → Type 0
+KeepsPlaces truthful lows new = IsTrue truthful → HasPlaces lows new
 
 -- and it is in the state of this stamp
 abbrev pub IsCommittedAs : Bool → KeyMap → Stamps → ℕ → List ℕ → List ℕ → Type 0

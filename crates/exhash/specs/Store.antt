@@ -6,7 +6,7 @@ use Rattle.exh_settings.specs.FileSettings.{AreInRange, are_same}
 use Rattle.exh_settings.specs.declared.file_settings.FileSettings.{FileSettings}
 use Rattle.exh_file.specs.FileChange.{HasMap}
 use Rattle.exh_file.specs.Opened.{OpenedState, settings_in}
-use Rattle.exh_map.specs.Sizes.{IsOfCause, IsOfOpening}
+use Rattle.exh_map.specs.Sizes.{IsOfCause}
 use Rattle.exh_map.specs.declared.store_error.StoreError.{StoreError}
 use Rattle.exh_map.specs.declared.store_error.StoreError.TheVariants.{AboveLimit, Exists, OldVersion, ReadOnly, Settings, Unheld, Unsynchronized, Vanished}
 
@@ -46,9 +46,9 @@ IsOfSaving fault = IsOfFile fault ⊎ IsOfCause fault
 abbrev pub IsOfCommit : {F : Type 0} → Option F → StoreError → Type 0
 IsOfCommit file fault = ((fault ≡ ReadOnly) × IsReadOnly file) ⊎ IsOfSaving fault
 
--- a new file has settings that are no file's, or isn't saved or opened
+-- a new file has settings that are no file's, or isn't saved or opened; where it is gone by then, it vanished
 abbrev pub IsOfNew : FileSettings AnyKeyer → StoreError → Type 0
-IsOfNew settings fault = ((fault ≡ Settings) × (AreInRange settings → ⊥)) ⊎ IsOfFile fault ⊎ IsOfOpening fault
+IsOfNew settings fault = ((fault ≡ Settings) × (AreInRange settings → ⊥)) ⊎ IsOfSaving fault
 
 -- or something is there already
 abbrev pub IsOfMaking : FileSettings AnyKeyer → StoreError → Type 0

@@ -9,7 +9,7 @@ ghost use Rattle.exh_file.specs.FileChange.{HasMap};
 ghost use Rattle.exh_file.specs.Opened.{AreWardsOf, settings_in};
 ghost use Rattle.exh_file.specs.declared.placing.Stamps.{Stamps as StampsOf};
 ghost use Rattle.exh_page.specs.KeyMap.{KeyMap};
-ghost use Rattle.exhash.specs.Commit.{Drafts, IsCommitted, IsOldOrCommitted};
+ghost use Rattle.exhash.specs.Commit.{Drafts, DraftsPlaces, IsCommitted, IsOldOrCommitted, KeepsPlaces};
 ghost use Rattle.exh_map.specs.FileMap.{KeepsMap};
 ghost use Rattle.exh_map.specs.Sizes.{IsOfCause};
 ghost use Rattle.exh_map.specs.Told.{IsUnsure};
@@ -53,6 +53,9 @@ pub fn commit_files<D: Truthful + Drop, P: Pages + Drop>(
     // The file alone, without its log, has these.
     ensures ok { OnOk result.0 ((whole : KeyMap) → HasMap map.old whole → (old : List ℕ) → StandsFor (seen_image D.Disk files.log files.db) old
         → LeavesAlone D.Disk (result.1.log, result.1.db) (IsCommitted D.Truthful.is_truthful whole stamps old)) }
+    // The pages that had places have them.
+    ensures places { OnOk result.0 ((old : List ℕ) → StandsFor (seen_image D.Disk files.log files.db) old
+        → LeavesAlone D.Disk (result.1.log, result.1.db) (KeepsPlaces D.Truthful.is_truthful lows.now)) }
     // It had the stamp before, unless a wrong answer of the disk was taken as true.
     ensures opened { OnOk result.0 (AreClean D.Disk result.1.log result.1.db → (old : List ℕ) → StandsFor (seen_image D.Disk files.log files.db) old → HasStamp stamps.before old) }
     // But for `Unsure` nothing was changed.
@@ -75,6 +78,7 @@ fn draft_of<P: Pages + Drop>(
     map: &mut FileMap<P>,
 ) -> Result<Draft<FileStore>, StoreError>
     ensures draft { IfOk result (λ draft. (whole : KeyMap) → HasMap map.old whole → Drafts whole stamps draft) }
+    ensures places { IfOk result (DraftsPlaces lows.now) }
     ensures kept { KeepsMap map.old map.new }
     ensures settings { settings_in map.new ≡ settings_in map.old }
 {
@@ -96,6 +100,7 @@ pub(crate) fn drafted(
 ) -> Result<Draft<FileStore>, StoreError>
     requires { AreWardsOf wards }
     ensures draft { IfOk result (λ draft. (whole : KeyMap) → HasMap wards whole → Drafts whole stamps draft) }
+    ensures places { IfOk result (DraftsPlaces lows.now) }
     ensures refused { IfErr result IsOfCause }
 {
     match Draft::grown(alloc, wards, lows, stamps) {
@@ -120,6 +125,8 @@ fn save_draft<D: Truthful + Drop>(
         → Leaves D.Disk (result.1.log, result.1.db) (IsOldOrCommitted D.Truthful.is_truthful whole stamps old) }
     ensures ok { OnOk result.0 ((whole : KeyMap) (stamps : StampsOf) → Drafts whole stamps draft → (old : List ℕ) → StandsFor (seen_image D.Disk files.log files.db) old
         → LeavesAlone D.Disk (result.1.log, result.1.db) (IsCommitted D.Truthful.is_truthful whole stamps old)) }
+    ensures places { OnOk result.0 ((lows : List ℕ) → DraftsPlaces lows draft → (old : List ℕ) → StandsFor (seen_image D.Disk files.log files.db) old
+        → LeavesAlone D.Disk (result.1.log, result.1.db) (KeepsPlaces D.Truthful.is_truthful lows)) }
     ensures opened { OnOk result.0 (AreClean D.Disk result.1.log result.1.db → (old : List ℕ) → StandsFor (seen_image D.Disk files.log files.db) old → HasStamp stamp old) }
     ensures unchanged { IfErr result.0 (λ fault. (IsUnsure fault → ⊥) → (old : List ℕ) → StandsFor (seen_image D.Disk files.log files.db) old → Leaves D.Disk (result.1.log, result.1.db) (λ bytes. bytes ≡ old)) }
 {

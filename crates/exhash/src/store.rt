@@ -11,7 +11,7 @@ ghost use Rattle.exh_map.specs.Sizes.{IsOfCause, IsOfOpening};
 ghost use Rattle.exh_map.specs.declared.store_error.StoreError.TheVariants.{ReadOnly, Settings as SettingsFault};
 ghost use Rattle.exh_pending.specs.Pending.{IsEmpty, KeepsPending};
 ghost use Rattle.exh_settings.specs.FileSettings.{AreInRange};
-ghost use Rattle.exhash.specs.Store.{IsHeld, IsNew, IsOfCommit, IsOfMaking, IsOfNew, IsReadOnly, IsUnheld};
+ghost use Rattle.exhash.specs.Store.{IsHeld, IsNew, IsOfCommit, IsOfMaking, IsOfNew, IsOfSaving, IsReadOnly, IsUnheld};
 
 use crate::held_file::HeldFile;
 use crate::new_file::make;
@@ -39,7 +39,7 @@ impl<'r> Store<'r> {
     ///
     /// `Exists`: something is there already that isn't empty, or another process changed the file before it was opened.
     /// `Settings`: the settings are no file's. `Unsynchronized`: it is made and not opened, and a power failure may take it away.
-    /// Others: it isn't made or opened, as they say. Then an empty file may be left.
+    /// `Vanished`: it was gone before it was opened. Others: it isn't made or opened, as they say. Then an empty file may be left.
     pub fn create(
         rt: &'r HostRuntime,
         path: &str,
@@ -52,7 +52,7 @@ impl<'r> Store<'r> {
         ensures refused { IfErr result (IsOfMaking settings) }
     {
         make(rt, path, settings)?;
-        let mut store = Store::open(rt, path)?;
+        let mut store = Store::open_there(rt, path)?;
         if store.is_new(settings)? {
             Ok(store)
         } else {
@@ -104,10 +104,22 @@ impl<'r> Store<'r> {
         })
     }
 
+    // Opens a file that was there just now. `Vanished`: it is gone.
+    fn open_there(rt: &'r HostRuntime, path: &str) -> Result<Store<'r>, StoreError>
+        ensures held { IfOk result (λ store. IsHeld store.file) }
+        ensures pending { IfOk result (λ store. IsEmpty store.pending) }
+        ensures refused { IfErr result IsOfSaving }
+    {
+        match Store::open(rt, path) {
+            Err(StoreError::Absent) => Err(StoreError::Vanished),
+            opened => opened,
+        }
+    }
+
     /// Opens the page file of a path, or makes one of these settings where nothing is there. The settings of a file that is
     /// there are its own.
     ///
-    /// Errors: as of `open` and `create`.
+    /// Errors: as of `open` and `create`, but for `Absent` and `Exists`.
     pub fn open_or_create(
         rt: &'r HostRuntime,
         path: &str,
@@ -119,7 +131,7 @@ impl<'r> Store<'r> {
     {
         match Store::open(rt, path) {
             Err(StoreError::Absent) => match Store::create(rt, path, settings) {
-                Err(StoreError::Exists) => Store::open(rt, path),
+                Err(StoreError::Exists) => Store::open_there(rt, path),
                 made => made,
             },
             opened => opened,

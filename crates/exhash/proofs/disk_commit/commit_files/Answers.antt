@@ -10,6 +10,9 @@ on_ok (Err fault) then holds = tt
 pub returns-in-Ok-clause-ok : goal.returns-in-Ok-clause-ok
 returns-in-Ok-clause-ok g c = on_ok c.save_draft.result.0 (λ all whole has old stands. all whole c.args.stamps (c.in-Ok.ensures.draft whole has) old stands) c.save_draft.ensures.ok
 
+pub returns-in-Ok-clause-places : goal.returns-in-Ok-clause-places
+returns-in-Ok-clause-places g c = on_ok c.save_draft.result.0 (λ all old stands. all c.args.lows.now c.in-Ok.ensures.places old stands) c.save_draft.ensures.places
+
 pub returns-in-Ok-clause-crash : goal.returns-in-Ok-clause-crash
 returns-in-Ok-clause-crash g c whole has old stands = c.save_draft.ensures.crash whole c.args.stamps (c.in-Ok.ensures.draft whole has) old stands
 

@@ -5,7 +5,7 @@ use Rattle.exh_commit.specs.FilePages.{LeavesAlone, StandsFor}
 use Rattle.exh_paged.specs.OwnLog.{HasStamp}
 use Rattle.exh_paged.specs.Saving.{IsSavedOver}
 use Rattle.exh_paged.specs.declared.save_files_fault.SaveFilesFault.{SaveFilesFault}
-use Rattle.exhash.proofs.CommitLemmas.{leaves_committed, leaves_either}
+use Rattle.exhash.proofs.CommitLemmas.{leaves_committed, leaves_either, leaves_places}
 use Rattle.exhash.proofs.FaultLemmas.{unsaved_for}
 use Rattle.exhash.proofs.disk_commit.save_draft.Goals as goal
 
@@ -26,6 +26,14 @@ returns-in-Ok-clause-ok g c whole stamps of old stands =
     subst (λ (saved : Result (Unit {0}) SaveFilesFault). OnOk saved ((old : List ℕ) → StandsFor (seen_image g.D.Disk c.args.files.log c.args.files.db) old → LeavesAlone g.D.Disk (back.log, back.db) (IsSavedOver g.D.Truthful.is_truthful c.args.draft old)))
     c.in-Ok.is c.save_files-saved.ensures.ok in
     leaves_committed g.D.Truthful.is_truthful c.args.draft whole stamps old of g.D.Disk (back.log, back.db) (all old stands)
+
+pub returns-in-Ok-clause-places : goal.returns-in-Ok-clause-places
+returns-in-Ok-clause-places g c lows of old stands =
+    let back = c.save_files-saved.result.1 in
+    let all : (old : List ℕ) → StandsFor (seen_image g.D.Disk c.args.files.log c.args.files.db) old → LeavesAlone g.D.Disk (back.log, back.db) (IsSavedOver g.D.Truthful.is_truthful c.args.draft old) =
+    subst (λ (saved : Result (Unit {0}) SaveFilesFault). OnOk saved ((old : List ℕ) → StandsFor (seen_image g.D.Disk c.args.files.log c.args.files.db) old → LeavesAlone g.D.Disk (back.log, back.db) (IsSavedOver g.D.Truthful.is_truthful c.args.draft old)))
+    c.in-Ok.is c.save_files-saved.ensures.ok in
+    leaves_places g.D.Truthful.is_truthful c.args.draft lows old of g.D.Disk (back.log, back.db) (all old stands)
 
 pub returns-in-Ok-clause-opened : goal.returns-in-Ok-clause-opened
 returns-in-Ok-clause-opened g c =
