@@ -28,7 +28,6 @@ pub fn make(rt: &HostRuntime, path: &str, settings: Settings) -> Result<(), Stor
     ensures refused { IfErr result (IsOfMaking settings) }
 {
     let draft = empty_draft(rt, settings)?;
-    see_name(path)?;
     let claimed = claim(rt, path)?;
     let seen = SystemDisk::new(rt).seen(path, claimed)?;
     match save_draft(rt, path, Some(&seen), draft) {
@@ -66,20 +65,13 @@ pub(crate) fn draft_anew(
     Ok(Draft::anew(rt.alloc(), wards, stamps)?)
 }
 
-// Sees that the name of a path's file leaves room for that of its log.
-fn see_name(path: &str) -> Result<(), StoreError>
-    ensures { IfErr result IsOfCause }
-{
-    if file_name_of(path).len() > NAME_LIMIT {
-        return Err(StoreError::Unfit(InPlaceFault::LongName));
-    }
-    Ok(())
-}
-
 // An empty file at a path, which of several processes one alone replaces.
 fn claim(rt: &HostRuntime, path: &str) -> Result<File, StoreError>
     ensures { IfErr result (λ fault. (fault ≡ Exists) ⊎ IsOfCause fault) }
 {
+    if file_name_of(path).len() > NAME_LIMIT {
+        return Err(StoreError::Unfit(InPlaceFault::LongName));
+    }
     let mut options = OpenOptions::new();
     options.write(true).create_new(true);
     match options.open(rt, path) {
