@@ -18,7 +18,6 @@ use Rattle.exh_file.specs.Placing.{IsPlacedSaving, ordered_pages, placed_file, t
 use Rattle.exh_file.specs.declared.placing.Form.{Form}
 use Rattle.exh_file.specs.declared.placing.Placing.{Placing}
 use Rattle.exh_file.specs.declared.placing.Stamps.{Stamps}
-use Rattle.exh_placing.specs.declared.page_at.PageAt.{PageAt}
 use Rattle.exh_paged.specs.CallChange.{HasPairs, HasStamps}
 use Rattle.exh_paged.specs.Saving.{IsOldOrSaved, IsSavedOver}
 use Rattle.exhash.specs.Commit.{Drafts, DraftsPlaces, HasPlaces, IsCommitted, IsOldOrCommitted, KeepsPlaces}
@@ -65,7 +64,7 @@ drafts_places opened lows stamps draft grown bytes saving = record {
   file = placed_file opened grown.2.placing;
   tables = tables_of_all opened.wards;
   legal = (as_placed opened lows stamps draft grown bytes saving).legal;
-  begins = subst (λ (order : List PageAt). take (length lows) (lows_of (ordered_pages opened.wards order)) ≡ lows) (sym grown.2.order_is) grown.2.begins;
+  begins = subst (λ order. take (length lows) (lows_of (ordered_pages opened.wards order)) ≡ lows) (sym grown.2.order_is) grown.2.begins;
 }
 
 -- ---- what is left
