@@ -32,7 +32,7 @@ pub fn read_still<R: Reading>(
 }
 
 /// What a reading finds in one state of the file of a path, beside writers. For so many seconds it is read twice without their
-/// lock, and, where it was changed meanwhile and the lock is free, once under it, by turns.
+/// lock, and, where it was changed meanwhile and the lock is free within a second, once under it, by turns.
 ///
 /// `Absent`: nothing is there, or an empty file. `Busy`: it was changed all the while, and the lock never free when asked for.
 /// Others: it isn't opened, as they say.
@@ -52,7 +52,7 @@ pub fn read_beside<R: Reading>(
             Err(Refused::Unfit(InPlaceFault::Restless)) => {}
             Err(refused) => return Err(StoreError::from(refused)),
         }
-        if let Some(found) = read_held(rt, path, reading, 0)? {
+        if let Some(found) = read_held(rt, path, reading, seconds.min(1))? {
             return Ok(found);
         }
         let passed = start.elapsed(rt)?;

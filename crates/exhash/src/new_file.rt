@@ -84,6 +84,11 @@ fn claim(rt: &HostRuntime, path: &str) -> Result<File, StoreError>
     if claimed.metadata()?.len() > 0 {
         return Err(StoreError::Exists);
     }
+    // A link leads to a file of another name.
+    let whole = fs::canonicalize(rt, path)?;
+    if file_name_of(whole.as_str()).len() > NAME_LIMIT {
+        return Err(StoreError::Unfit(InPlaceFault::LongName));
+    }
     Ok(claimed)
 }
 
