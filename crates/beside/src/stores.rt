@@ -6,12 +6,11 @@ ghost use Rattle.exh_settings.specs.StormConfig.{IsStormConfig};
 
 use exh_frames::{FramedMaker, FramedPages, Pages, PlainMaker, PlainPages, StoreMaker};
 use exh_keyer::{AnyKeyer, ShaKeyer};
-use exh_live::{NoWatch, storm_over};
+use exh_live::{NoWatch, OpenGate, storm_over};
 use exh_notes::{Expect, Notes};
 use exh_script::{ServeFault, serve_over};
 use exh_settings::{CALLERS_LIMIT, CALLS_LIMIT, StormConfig};
 use exh_stream::Output;
-use exh_walk::OpenGate;
 use std::io;
 use std::process::ExitCode;
 use std::sync::Wait;

@@ -2,9 +2,8 @@
 
 use exh_callers::{Caller, File, is_told};
 use exh_fixtures::{Difference, Run, Said, told_reply};
-use exh_live_file::Identity;
-use exh_stores::Pages;
-use exh_walk::OpenGate;
+use exh_frames::Pages;
+use exh_live::{Identity, OpenGate};
 use std::sync::Wait;
 
 /// Asks these, each of which is a step. The first reply is taken for a wrong one where that is due.

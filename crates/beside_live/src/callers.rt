@@ -7,13 +7,12 @@ ghost use Rattle.exh_live_file.specs.declared.ledgers.TheConstants.{ANSWER_PARTS
 use exh_callers::{
     CAP, Caller, PlainFile, PlainWard, Reader, ask, close_settled, new_file, next_caller,
 };
-use exh_calls::Call;
 use exh_copy::Start;
 use exh_fixtures::{Asked, Dice, Difference, Part, Run, again, same, told_reply};
 use exh_keyer::PlainKeyer;
-use exh_live_file::{ANSWER_PARTS, ENTRY_PARTS, Identity, Seat};
+use exh_live::{ANSWER_PARTS, ENTRY_PARTS, Identity, OpenGate, Seat};
 use exh_model::MapMachine;
-use exh_walk::OpenGate;
+use exh_ward::Call;
 use std::alloc::AllocError;
 use std::sync::Wait;
 use std::sync::ledger::Blank;

@@ -4,13 +4,12 @@ ghost use Rattle.exh_keyer.specs.Pseudokey.{plain_pseudokey};
 ghost use Rattle.exh_live_file.specs.declared.ledgers.TheConstants.{ANSWER_PARTS, ENTRY_PARTS};
 
 use exh_callers::{CAP, PlainFile, Reader, close, is_told, new_file, next_caller, settled};
-use exh_calls::Reply;
 use exh_copy::Start;
 use exh_fixtures::{Asked, Difference, Part, Run, same};
+use exh_frames::PlainPages;
 use exh_keyer::PlainKeyer;
-use exh_live_file::{ANSWER_PARTS, Closed, ENTRY_PARTS, Identity, NotClosed, Seat};
-use exh_stores::PlainPages;
-use exh_walk::OpenGate;
+use exh_live::{ANSWER_PARTS, Closed, ENTRY_PARTS, Identity, NotClosed, OpenGate, Seat};
+use exh_ward::Reply;
 use std::alloc::{AllocError, Global};
 use std::marker::Brand;
 use std::sync::Wait;

@@ -7,13 +7,12 @@ use exh_callers::{
     CAP, Caller, Conductor, Count, PlainFile, PlainWard, Reader, Rule, Then, Who, ask,
     close_settled, is_told, new_file, next_caller,
 };
-use exh_calls::{Call, Reply};
 use exh_fixtures::{Asked, Difference, Part, Run, again, same, told_reply, value};
 use exh_keyer::PlainKeyer;
-use exh_live_file::{ANSWER_PARTS, ENTRY_PARTS, Identity};
+use exh_live::{ANSWER_PARTS, ENTRY_PARTS, Gate, Identity, OpenGate};
 use exh_model::audit;
 use exh_page::Value;
-use exh_walk::{Gate, OpenGate};
+use exh_ward::{Call, Reply};
 use itoa::Buffer;
 use std::alloc::AllocError;
 use std::sync::Wait;

@@ -9,13 +9,11 @@ use exh_callers::{
     CAP, Caller, Conductor, Count, PlainFile, Reader, Rule, Then, Who, close_settled, is_told,
     new_file, next_caller,
 };
-use exh_calls::{JournalEntry, Reply};
 use exh_fixtures::{Asked, Difference, Part, Run, Said, same, value};
+use exh_frames::PlainPages;
 use exh_keyer::PlainKeyer;
-use exh_live_file::{ANSWER_PARTS, ENTRY_PARTS, Identity};
-use exh_stores::PlainPages;
-use exh_walk::OpenGate;
-use exh_ward::Ward;
+use exh_live::{ANSWER_PARTS, ENTRY_PARTS, Identity, OpenGate};
+use exh_ward::{JournalEntry, Reply, Ward};
 use std::sync::Wait;
 use std::sync::ledger::Blank;
 use std::thread::{Threads, join};

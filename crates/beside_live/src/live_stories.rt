@@ -16,7 +16,7 @@ use crate::one_caller::OneCaller;
 use exh_callers::{Reader, Writer};
 use exh_copy::{NewCopyFault, Start, new_copy};
 use exh_fixtures::{Difference, Job, Named, Part, Run, Status, Tally, again, has_told_difference};
-use exh_live_file::{ANSWER_PARTS, ENTRY_PARTS, Identity};
+use exh_live::{ANSWER_PARTS, ENTRY_PARTS, Identity};
 use exh_table::Table;
 use std::alloc::AllocError;
 use std::marker::Brand;

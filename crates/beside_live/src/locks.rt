@@ -7,12 +7,11 @@ use exh_callers::{
     Caller, Conductor, IS_LATE, IS_READ, Look, MAY_GO, Reader, WatchedFile, WatchedMaker, is_told,
     next_caller, watched_file,
 };
-use exh_calls::Reply;
 use exh_fixtures::{Asked, Difference, Part, Run, same};
+use exh_frames::{Pages, StoreMaker};
 use exh_keyer::PlainKeyer;
-use exh_live_file::{ANSWER_PARTS, ENTRY_PARTS, Identity};
-use exh_stores::{Pages, StoreMaker};
-use exh_walk::OpenGate;
+use exh_live::{ANSWER_PARTS, ENTRY_PARTS, Identity, OpenGate};
+use exh_ward::Reply;
 use std::sync::Wait;
 use std::sync::ledger::Blank;
 use std::thread::{Threads, join};

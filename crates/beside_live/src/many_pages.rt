@@ -8,8 +8,8 @@ use exh_callers::{
     WatchedMaker, Who, is_kept, is_told, next_caller, watched_file,
 };
 use exh_fixtures::{Difference, Part, Run, Said, same, told_reply};
-use exh_live_file::{ANSWER_PARTS, ENTRY_PARTS, Identity};
-use exh_stores::{PlainMaker, PlainPages};
+use exh_frames::{PlainMaker, PlainPages};
+use exh_live::{ANSWER_PARTS, ENTRY_PARTS, Identity};
 use std::sync::Wait;
 use std::sync::ledger::Blank;
 use std::thread::{Threads, join};

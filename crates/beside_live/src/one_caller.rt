@@ -19,7 +19,7 @@ use exh_callers::{
 use exh_copy::Start;
 use exh_fixtures::{Difference, Run, again, prefix};
 use exh_keyer::PlainKeyer;
-use exh_live_file::{ANSWER_PARTS, ENTRY_PARTS, Identity};
+use exh_live::{ANSWER_PARTS, ENTRY_PARTS, Identity};
 use exh_notice::{Entry, Kind};
 use exh_table::Table;
 use std::alloc::{AllocError, Global};

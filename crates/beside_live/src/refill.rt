@@ -10,9 +10,9 @@ use exh_callers::{
     WatchedPages, close_settled, is_kept, keep, next_caller, watched_file,
 };
 use exh_fixtures::{Difference, Part, Run, Said, merge, prefix, same, split};
+use exh_frames::{PlainMaker, PlainPages};
 use exh_keyer::PlainKeyer;
-use exh_live_file::{ANSWER_PARTS, ENTRY_PARTS, Identity};
-use exh_stores::{PlainMaker, PlainPages};
+use exh_live::{ANSWER_PARTS, ENTRY_PARTS, Identity};
 use exh_ward::Ward;
 use std::sync::Wait;
 use std::sync::ledger::Blank;

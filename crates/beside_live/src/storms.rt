@@ -3,9 +3,9 @@ ghost use Rattle.exh_settings.specs.StormConfig.{IsStormConfig};
 
 use exh_callers::{Conductor, Count, Rule, Then, Who};
 use exh_fixtures::{Part, Run, again, same};
+use exh_frames::PlainMaker;
 use exh_live::{StormFault, storm_over};
 use exh_settings::StormConfig;
-use exh_stores::PlainMaker;
 use std::alloc::Global;
 use std::sync::Wait;
 use std::thread::Threads;

@@ -4,10 +4,10 @@ ghost use Rattle.exh_live_file.specs.LiveFile.{IsNewWardOf};
 
 use exh_callers::PlainWard;
 use exh_fixtures::{Difference, Part, again, opened_ward, refused};
+use exh_frames::PlainPages;
 use exh_join::Join;
 use exh_keyer::PlainKeyer;
 use exh_legal::fitting_tables_begin_wards;
-use exh_stores::PlainPages;
 use exh_ward::{Ward, WardFault};
 use std::alloc::Global;
 

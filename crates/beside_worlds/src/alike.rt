@@ -1,8 +1,8 @@
 //! Wards that are alike.
 
 use exh_fixtures::{Difference, Part, are_same, refused, same};
+use exh_frames::Pages;
 use exh_keyer::AnyKeyer;
-use exh_stores::Pages;
 use exh_ward::{Ward, WardFault};
 use std::alloc::AllocError;
 

@@ -9,14 +9,13 @@ ghost use Rattle.beside_worlds.specs.Anew.{AreItsWards, HasSettings};
 
 use crate::answers::{Line, PlainScript, ROOM, answer};
 use crate::lives::{FIRST, GONE, SECOND, journal, notices};
-use exh_calls::JournalEntry;
 use exh_fixtures::{Difference, Part, Run, same};
+use exh_frames::PlainPages;
 use exh_keyer::AnyKeyer;
 use exh_notice::Notice;
 use exh_script::Run as Script;
 use exh_settings::Config;
-use exh_stores::PlainPages;
-use exh_ward::Ward;
+use exh_ward::{JournalEntry, Ward};
 use exh_world::World;
 use std::alloc::{AllocError, Global};
 

@@ -5,8 +5,8 @@ ghost use Rattle.exh_world.specs.Sound.{IsSoundWorld};
 ghost use Rattle.beside_worlds.specs.Anew.{HasSettings};
 
 use exh_fixtures::{Part, Run, same};
+use exh_frames::PlainPages;
 use exh_script::{ResponseFault, Run as Script, lines_keep_settings, push_response};
-use exh_stores::PlainPages;
 use std::alloc::AllocError;
 
 /// A script over pages in memory.

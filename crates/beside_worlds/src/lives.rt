@@ -2,9 +2,9 @@
 //! of a file of one ward, of pages of two records. All notices are at the root, so indexes and numbers rise together.
 
 use crate::answers::Line;
-use exh_calls::{JournalEntry, Reply};
 use exh_fixtures::{Asked, Difference, merge, prefix, split, value};
 use exh_notice::Notice;
+use exh_ward::{JournalEntry, Reply};
 
 /// The first world, of two copies: the three keys, a merge and a page that is live again; a request is left at page 1.
 pub(crate) const FIRST: [Line; 22] = [

@@ -5,7 +5,6 @@
 use crate::failing_maker::FailingMaker;
 use crate::lists::{LISTS, List};
 use crate::played::{CONFIG, OUT_OF_REACH, Played, events_of, new_world, play, turns_of};
-use exh_event::{StepFault, Turn};
 use exh_fixtures::{Difference, Part, Run, again, same};
 use exh_frames::{
     CACHE_SIZE_LIMIT, CacheFault, FailingPages, FramedMaker, FramedPages, Pages, PlainMaker,
@@ -13,7 +12,7 @@ use exh_frames::{
 };
 use exh_keyer::AnyKeyer;
 use exh_ward::WardFault;
-use exh_world::World;
+use exh_world::{StepFault, Turn, World};
 use std::alloc::{AllocError, Global};
 
 // More calls than a list makes.

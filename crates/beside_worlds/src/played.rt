@@ -2,13 +2,12 @@
 
 use crate::alike::are_alike;
 use crate::lists::List;
-use exh_event::{Event, StepFault, Turn};
 use exh_fixtures::{Difference, Part, again, same};
+use exh_frames::{Pages, PlainPages};
 use exh_keyer::AnyKeyer;
 use exh_settings::Config;
-use exh_stores::{Pages, PlainPages};
 use exh_ward::{Ward, WardFault};
-use exh_world::World;
+use exh_world::{Event, StepFault, Turn, World};
 use std::alloc::{AllocError, Global};
 
 /// The refusal of a growth.

@@ -1,11 +1,10 @@
 //! Events of a file of one ward, each with what it comes to.
 
-use exh_calls::{Call, Reply};
-use exh_event::{Event, Outcome, StepFault, Turn};
 use exh_fixtures::{Difference, Part, Said, merge, prefix, split};
 use exh_notice::Notice;
 use exh_prefix::PageNo;
-use exh_ward::{Hop, WardFault};
+use exh_ward::{Call, Hop, Reply, WardFault};
+use exh_world::{Event, Outcome, StepFault, Turn};
 use std::alloc::AllocError;
 
 /// A change of the ward: its index, the bits of its prefix, its number there, and the right page of a split.

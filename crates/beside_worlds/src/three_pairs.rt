@@ -2,7 +2,7 @@
 
 use exh_file::{OpenFault, Opened, SaveFault, write_file};
 use exh_fixtures::{Difference, FakeReader, FakeWriter, WriteRefusal};
-use exh_stores::Pages;
+use exh_frames::Pages;
 use std::alloc::{AllocError, Global};
 
 /// The length of a block, in bytes.

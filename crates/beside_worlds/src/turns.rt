@@ -3,9 +3,9 @@
 
 use crate::lists::{LISTS, List};
 use crate::played::{OUT_OF_MEMORY, Played, events_of, new_world, play, turns_of};
-use exh_event::Turn;
 use exh_fixtures::{Difference, Part, Run, same};
-use exh_stores::PlainPages;
+use exh_frames::PlainPages;
+use exh_world::Turn;
 
 /// Plays each list.
 pub(crate) fn run<R: Eprint>(rt: &R, run: &mut Run) -> Result<(), Difference> {

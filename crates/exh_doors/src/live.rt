@@ -6,18 +6,17 @@ ghost use Rattle.std.specs.FinMap as map;
 ghost use Rattle.exh_keyer.specs.Pseudokey.{plain_pseudokey};
 ghost use Rattle.exh_live_file.specs.declared.ledgers.TheConstants.{ANSWER_PARTS, ENTRY_PARTS};
 
-use exh_calls::{Call, Reply};
 use exh_copy::{CopyReader, CopyWriter, NewCopyFault, Start, new_copy};
 use exh_fixtures::{Said, merge};
+use exh_frames::{PlainMaker, PlainPages};
 use exh_keyer::PlainKeyer;
 use exh_live::{
-    ANSWER_PARTS, Closed, Cursors, ENTRY_PARTS, Identity, LiveFile, OpenGate, Seat, StormConfig,
-    settle, storm, walk_steps,
+    ANSWER_PARTS, Closed, Cursors, ENTRY_PARTS, Identity, LiveFile, OpenGate, Seat, Steps,
+    StormConfig, settle, storm, walk_steps,
 };
 use exh_settings::FileSettings;
-use exh_stores::{PlainMaker, PlainPages};
 use exh_table::{Leaf, Table};
-use exh_ward::{Ward, new_wards};
+use exh_ward::{Call, Hop, Reply, Ward, new_wards};
 use std::alloc::{AllocError, Global};
 use std::marker::Brand;
 use std::sync::Wait;
@@ -207,9 +206,31 @@ fn walk(alloc: Global) -> Option<bool> {
     Some(answer == Ok(reply) && ward.journal().len() == 1)
 }
 
+// A put and a get by one hop each, by the ward's own call and by that of a walk.
+fn hops(alloc: Global) -> Option<bool> {
+    let mut wards: Vec<Ward<PlainPages, PlainKeyer>> = new_wards(
+        alloc,
+        &PlainMaker,
+        SETTINGS,
+    ).ok()?;
+    let ward = wards.first_mut()?;
+    let (put, new) = line(Said::New(b"\x80", b"b"))?;
+    let (get, is_b) = line(Said::Is(b"\x80", b"b"))?;
+    if !ward.covers(HALF) || ward.pseudokey(put.key()) != HALF {
+        return None;
+    }
+    let is_put = ward.hop(0, 7, &put) == Ok(Hop::Done(new));
+    if !ward.covers(HALF) || ward.pseudokey(get.key()) != HALF {
+        return None;
+    }
+    let is_got = Steps::hop(ward, 0, 7, &get) == Ok(Hop::Done(is_b));
+    Some(is_put && is_got && ward.journal().len() == 2)
+}
+
 #[test]
 fn a_walk(rt: HostRuntime) {
     assert!(rt; walk(rt.alloc()) == Some(true));
+    assert!(rt; hops(rt.alloc()) == Some(true));
 }
 
 const STORM: StormConfig = StormConfig {

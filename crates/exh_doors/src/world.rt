@@ -2,15 +2,13 @@
 //! records: the third put splits page 0 into pages 0, for keys that begin with bit 0, and 1. A copy that wasn't told of
 //! that names page 0 for `#80`, from where its answer is one move.
 
-use exh_calls::{Call, Reply};
-use exh_frames::CacheFault;
+use exh_frames::{CacheFault, Pages};
 use exh_keyer::PlainKeyer;
 use exh_notice::{Kind, Notice};
 use exh_page::{Key, PageHead, Value};
 use exh_prefix::Prefix;
 use exh_script::{Ended, load, serve, serve_from};
-use exh_stores::Pages;
-use exh_ward::{Hop, WardFault};
+use exh_ward::{Call, Hop, Reply, WardFault};
 use exh_world::{Config, Event, Outcome, StepFault, World};
 use std::alloc::{AllocError, Global};
 use std::test::Fail;
@@ -129,6 +127,7 @@ fn worlds(rt: HostRuntime) -> Result<(), Fail> {
     assert!(rt; goes_so(&mut World::new(alloc, CONFIG)?) == Some(true));
     assert!(rt; goes_so_again(alloc)? == Some(true));
     assert!(rt; goes_so(&mut World::new_framed(alloc, CONFIG, 1)?) == Some(true));
+    assert!(rt; goes_so(&mut World::new_framed(alloc, CONFIG, 2)?) == Some(true));
     assert!(rt; goes_so(&mut World::new_framed(alloc, CONFIG, 1024)?) == Some(true));
     assert!(rt; matches!(World::new_framed(alloc, CONFIG, 0), Err(CacheFault::Size)));
     assert!(rt;
