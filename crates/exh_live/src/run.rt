@@ -77,8 +77,8 @@ pub fn storm_over<
 /// caller and before each round of a keeper and of a courier, and the watch is told of each answer and
 /// after each round. All are joined, the file is closed, and diaries and journals are settled. Refused,
 /// with the first refusal by caller, then keeper, then courier: `Memory`, also where a thread can't be
-/// made, `Page`, `Held`; and `Seats` before, `Mismatch` after them. It may wait: for a gate that does, and
-/// for locks.
+/// made, or a copy gets no reader, `Page`, `Held`; and `Mismatch` after them, never `Seats`. It may wait:
+/// for a gate that does, and for locks.
 pub fn storm_left<
     R: Threads + Wait + Sync,
     P: Pages + Drop + Send + Sync,
