@@ -1,7 +1,7 @@
 -- The file of version 3 of sound wards is legal.
-use Rattle.std.proofs.Common.{◌≡◌, ℕ, zero, suc, ◌+◌, ◌-◌, ◌^◌, ◌<◌, ◌≤◌, Bool, true, false, nat_eq, eq-eqb, cond, List, [], ◌∷◌, ◌++◌, length, map, set, get_or, replicate, slice_get, None, Some, inl, inr, refl, sym, ap, ◌∙◌, subst, arith}
+use Rattle.std.proofs.Common.{◌≡◌, ℕ, zero, suc, ◌^◌, ◌<◌, Bool, false, nat_eq, eq-eqb, cond, List, [], ◌∷◌, ◌++◌, length, map, set, get_or, replicate, slice_get, Some, inl, inr, refl, sym, ap, ◌∙◌, subst, arith}
 use Rattle.std.specs.FinMap.{empty}
-use Rattle.std.specs.List.{AllByRecursion, count_by, sum, sum_by}
+use Rattle.std.specs.List.{AllByRecursion, sum}
 use Rattle.std.specs.Option.{option_map}
 use Rattle.std.proofs.lemmas.Bool.{cases_eq, cases_lt}
 use Rattle.std.proofs.lemmas.Bool.Decides.{eqb_tells}
@@ -18,16 +18,14 @@ use Rattle.exh_page.specs.Page.{IsWellFormed}
 use Rattle.exh_page.specs.declared.page.Page.{Page}
 use Rattle.exh_legal.specs.LegalLaws.{FittingTablesBeginWards}
 use Rattle.exh_legal.specs.LegalParts.{parts_of}
-use Rattle.exh_legal.specs.MapLemmas.{all_pages}
-use Rattle.exh_legal.specs.Pages.{IsAt}
 use Rattle.exh_legal.specs.ReasonLaws.{IsLegalFile, LegalFilesPass}
 use Rattle.exh_codec.specs.PageImage.{IsInRange, IsPage}
 use Rattle.exh_format.specs.FileVersion.{written_format}
 use Rattle.exh_format.specs.HeaderImage.{IsHeader}
-use Rattle.exh_cells.specs.PlacedFile.{IsPlaced, lows_of, placed_bytes}
+use Rattle.exh_cells.specs.PlacedFile.{IsPlaced, placed_bytes}
 use Rattle.exh_cells.specs.StampedHeader.{IsStampedHeader}
 use Rattle.exh_placing.specs.declared.page_at.PageAt.{PageAt}
-use Rattle.exh_placing.specs.Order.{BeginsWithFirsts, IsOrderOf, own_in}
+use Rattle.exh_placing.specs.Order.{BeginsWithFirsts, own_in}
 use Rattle.exh_placing.specs.PlacingLaws.{OrdersGivePages}
 use Rattle.exh_placing.specs.WardFile.{ArePagesOf, IsFileOfWards, LegalWardsGiveFiles}
 use Rattle.exh_ward.specs.WardState.{WardState}
@@ -35,9 +33,9 @@ use Rattle.exh_file.specs.declared.placing.Placing.{Placing}
 use Rattle.exh_file.specs.declared.placing.Stamps.{Stamps}
 use Rattle.exh_file.specs.Opened.{AreWardsOf, OpenedState}
 use Rattle.exh_file.specs.Placing.{IsPlacedSaving, IsPlacingOf, ordered_pages, placed_file, stamped_header, tables_of_all}
-use Rattle.exh_file.specs.Saved.{AreSound, counts_in, header_of, pages_of_all}
+use Rattle.exh_file.specs.Saved.{AreSound, header_of, pages_of_all}
 use Rattle.exh_file.proofs.Legal.{legal_parts}
-use Rattle.exh_file.proofs.Places.{own_is, own_page, page_there, ward_within}
+use Rattle.exh_file.proofs.Places.{own_page, page_there, ward_within}
 
 -- ---- the header
 

@@ -1,14 +1,14 @@
 -- The file of version 3 that wards are written as.
-use Rattle.std.specs.Prelude.{◌≡◌, ℕ, List, [], length, map, get_or}
+use Rattle.std.specs.Prelude.{◌≡◌, ℕ, ◌^◌, ◌<◌, List, [], length, map, take, get_or}
 use Rattle.exh_keyer.specs.declared.any_keyer.AnyKeyer.{AnyKeyer}
 use Rattle.exh_table.specs.Table.{TableMap}
 use Rattle.exh_page.specs.declared.page.Page.{Page}
 use Rattle.exh_cells.specs.declared.stamped_header.StampedHeader.{StampedHeader}
 use Rattle.exh_cells.specs.CellLaws.{AreTold}
 use Rattle.exh_cells.specs.LegalPlaced.{IsLegalPlacedFile, wards_of}
-use Rattle.exh_cells.specs.PlacedFile.{PlacedFile, lows_of, placed_bytes}
+use Rattle.exh_cells.specs.PlacedFile.{PlacedFile, lows_of}
 use Rattle.exh_placing.specs.declared.page_at.PageAt.{PageAt}
-use Rattle.exh_placing.specs.Order.{BeginsWithFirsts, IsOrderOf, IsOrderOfLows, with_others}
+use Rattle.exh_placing.specs.Order.{BeginsWithFirsts, IsOrderOf, IsOrderOfLows, IsWithin, with_others}
 use Rattle.exh_placing.specs.WardFile.{pages_named}
 use Rattle.exh_ward.specs.WardState.{WardState}
 use Rattle.exh_file.specs.declared.placing.Placing.{Placing}
@@ -64,6 +64,12 @@ pub record IsGrownOrder (ward_bits : ℕ) (wards : List (WardState AnyKeyer)) (l
   pub placed : List PageAt
   pub placed_is : IsOrderOfLows ward_bits lows placed
   pub order_is : order ≡ with_others (map length (pages_of_all wards)) placed
+
+-- the wards have the pages of these low bounds, fewer than 2^32: none is a page that a ward lacks, the first are the wards' pages 0, and each has its low bound
+pub record HavePages (ward_bits : ℕ) (wards : List (WardState AnyKeyer)) (lows : List ℕ) : Type 0 where
+  pub few : length lows < 2 ^ 32
+  pub theirs : (placed : List PageAt) → IsOrderOfLows ward_bits lows placed → IsWithin (map length (pages_of_all wards)) placed × BeginsWithFirsts (length wards) placed
+  pub bounds : (order : List PageAt) → IsGrownOrder ward_bits wards lows order → take (length lows) (lows_of (ordered_pages wards order)) ≡ lows
 
 -- a placing of these wards in this order, with these stamps
 pub record IsPlacedSo (opened : OpenedState) (order : List PageAt) (stamps : Stamps) (placing : Placing) : Type 0 where

@@ -1,11 +1,11 @@
-ghost use Rattle.std.specs.Prelude.{◌≡◌, IfOk, OnErr, OnOk};
+ghost use Rattle.std.specs.Prelude.{◌≡◌, ◌≢◌, length, take, IfErr, IfOk, OnErr, OnOk};
 ghost use Rattle.std.specs.Io.KnownBytes.{Appends};
 ghost use Rattle.exh_stream.specs.Output.{AppendsBeginning};
 ghost use Rattle.exh_file.specs.declared.placing.Form.TheVariants.{Placed, Plain};
-ghost use Rattle.exh_cells.specs.PlacedFile.{placed_bytes};
+ghost use Rattle.exh_cells.specs.PlacedFile.{lows_of, placed_bytes};
 ghost use Rattle.exh_file.specs.Draft.{IsAnew, IsDraftLeft, IsDraftSaving, IsDraftedSo, IsGrown, IsSaving, bytes_as, bytes_in};
 ghost use Rattle.exh_file.specs.Opened.{AreWardsOf, in_file};
-ghost use Rattle.exh_file.specs.Placing.{IsPlacedSaving, IsPlacingOf, IsWardOrder, placed_file};
+ghost use Rattle.exh_file.specs.Placing.{HavePages, IsPlacedSaving, IsPlacingOf, IsWardOrder, ordered_pages, placed_file};
 ghost use Rattle.exh_file_faults.specs.SaveFault.{CountsSaveFailures};
 ghost use Rattle.exh_file.specs.Saved.{AreSound, AreUnchanged, failures_in};
 
@@ -61,7 +61,8 @@ impl<P: Pages + Drop> Draft<P> {
     ///
     /// `Page`: a page is out of reach. `Memory`: a growth was refused. Then the wards are gone.
     pub fn anew(alloc: Global, opened: Opened<P>, stamps: Stamps) -> Result<Draft<P>, DraftFault>
-        ensures { IfOk result (IsAnew opened stamps) }
+        ensures ok { IfOk result (IsAnew opened stamps) }
+        ensures places { IfErr result (λ fault. fault ≢ DraftFault.Places) }
     {
         let settings = opened.settings();
         let wards = opened.into_wards();
@@ -81,7 +82,8 @@ impl<P: Pages + Drop> Draft<P> {
         lows: &[u64],
         stamps: Stamps,
     ) -> Result<Draft<P>, DraftFault>
-        ensures { IfOk result (IsGrown opened lows.now stamps) }
+        ensures ok { IfOk result (IsGrown opened lows.now stamps) }
+        ensures places { IfErr result (λ fault. fault ≡ DraftFault.Places → ¬ HavePages opened.ward_bits opened.wards lows.now) }
     {
         let settings = opened.settings();
         let wards = opened.into_wards();
@@ -187,7 +189,8 @@ fn drafted<P: Pages + Drop>(
     requires wards { AreWardsOf (in_file settings wards.items) }
     requires sound { AreSound wards.items }
     requires order { IsWardOrder wards.items order.items }
-    ensures { IfOk result (IsDraftedSo (in_file settings wards.items) order.items lows.now stamps) }
+    ensures ok { IfOk result (IsDraftedSo (in_file settings wards.items) order.items lows.now stamps) }
+    ensures places { IfErr result (λ fault. fault ≡ DraftFault.Places → take (length lows.now) (lows_of (ordered_pages wards.items order.items)) ≢ lows.now) }
 {
     match placing_in(alloc, settings, &mut wards, order, lows, stamps)? {
         Some(placing) => Ok(Draft {

@@ -1,12 +1,12 @@
 //! How wards are placed in a file of version 3.
-ghost use Rattle.std.specs.Prelude.{◌≡◌, ◌≢◌, ◌<◌, ◌≤◌, ℕ, length, map, take, get_or, slice_get, slice_index, Some, IfErr, IfOk, IfSome, IsTrue};
+ghost use Rattle.std.specs.Prelude.{◌≡◌, ◌≢◌, ◌<◌, ◌≤◌, ◌↔◌, ℕ, length, map, take, get_or, slice_get, slice_index, Some, IfErr, IfNone, IfOk, IfSome, IsTrue};
 ghost use Rattle.exh_placing.specs.declared.page_at.PageAt.{PageAt as PageAtValue};
 ghost use Rattle.exh_placing.specs.Order.{BeginsWithFirsts, IsNumbered, IsOrderOf, IsOrderOfLows, IsWithin, first_pages, with_others};
 ghost use Rattle.exh_cells.specs.declared.fit.TheConstants.{COUNTS_LEN};
 ghost use Rattle.exh_prefix.specs.declared.prefix.TheConstants.{WARD_BITS_LIMIT};
 ghost use Rattle.exh_cells.specs.PlacedFile.{lows_of};
 ghost use Rattle.exh_file.specs.Opened.{AreWardsOf, in_file};
-ghost use Rattle.exh_file.specs.Placing.{IsGrownOrder, IsPlacedSo, IsWardOrder, ordered_pages};
+ghost use Rattle.exh_file.specs.Placing.{HavePages, IsGrownOrder, IsPlacedSo, IsWardOrder, ordered_pages};
 ghost use Rattle.exh_file.specs.Saved.{AreSound, counts_in, pages_of_all};
 
 use crate::SaveFault;
@@ -43,6 +43,7 @@ pub(crate) fn placing_in<P: Pages + Drop>(
     requires order { IsWardOrder wards.old order.items }
     ensures placing { IfOk result (λ found. IfSome found (IsPlacedSo (in_file settings wards.old) order.items stamps)) }
     ensures begins { IfOk result (λ found. IfSome found (λ _. take (length old.now) (lows_of (ordered_pages wards.old order.items)) ≡ old.now)) }
+    ensures none { IfOk result (λ found. IfNone found (take (length old.now) (lows_of (ordered_pages wards.old order.items)) ≢ old.now)) }
     ensures fault { IfErr result (λ fault. fault ≢ SaveFault.Write) }
     ensures same { IfOk result (λ _. wards.new ≡ wards.old) }
 {
@@ -65,7 +66,7 @@ pub(crate) fn placing_in<P: Pages + Drop>(
 
 // Whether the first of low bounds are these.
 fn begins_with(lows: &[u64], old: &[u64]) -> bool
-    ensures { IsTrue result → take (length old.now) lows.now ≡ old.now }
+    ensures { IsTrue result ↔ take (length old.now) lows.now ≡ old.now }
 {
     old.len() <= lows.len() && lows[..old.len()] == old[..]
 }
@@ -98,6 +99,7 @@ pub(crate) fn order_grown<P: Pages + Drop>(
     requires { AreWardsOf (in_file settings wards.now) }
     ensures order { IfOk result (λ found. IfSome found (λ order. IsWardOrder wards.now order.items)) }
     ensures grown { IfOk result (λ found. IfSome found (λ order. IsGrownOrder settings.ward_bits wards.now lows.now order.items)) }
+    ensures none { IfOk result (λ found. IfNone found (¬ HavePages settings.ward_bits wards.now lows.now)) }
     ensures sound { AreSound wards.now }
 {
     let header = header_of(settings, wards);
@@ -115,7 +117,7 @@ pub(crate) fn order_grown<P: Pages + Drop>(
 // Whether each page of an order, whose pages are numbered, is one of wards that have so many.
 fn are_within(counts: &[PageNo], order: &[PageAt]) -> bool
     requires { IsNumbered order.now }
-    ensures { IsTrue result → IsWithin counts.now order.now }
+    ensures { IsTrue result ↔ IsWithin counts.now order.now }
 {
     for place in 0..order.len() {
         if !is_within(counts, order[place]) {
@@ -127,7 +129,7 @@ fn are_within(counts: &[PageNo], order: &[PageAt]) -> bool
 
 // Whether a page is one of wards that have so many.
 fn is_within(counts: &[PageNo], page: PageAt) -> bool
-    ensures { IsTrue result → page.number < get_or counts.now page.ward 0 }
+    ensures { IsTrue result ↔ page.number < get_or counts.now page.ward 0 }
 {
     match counts.get(page.ward as usize) {
         Some(count) => page.number < *count,
@@ -137,7 +139,7 @@ fn is_within(counts: &[PageNo], page: PageAt) -> bool
 
 // Whether the first places of an order are those of so many wards' pages 0.
 fn begins_with_firsts(wards: usize, order: &[PageAt]) -> bool
-    ensures { IsTrue result → BeginsWithFirsts wards order.now }
+    ensures { IsTrue result ↔ BeginsWithFirsts wards order.now }
 {
     if order.len() < wards {
         return false;
@@ -152,7 +154,7 @@ fn begins_with_firsts(wards: usize, order: &[PageAt]) -> bool
 
 // Whether a page is page 0 of a ward.
 fn is_first(page: PageAt, ward: usize) -> bool
-    ensures { IsTrue result → page ≡ record { ward = ward; number = 0 } }
+    ensures { IsTrue result ↔ page ≡ record { ward = ward; number = 0 } }
 {
     page.ward as usize == ward && page.number == 0
 }

@@ -65,11 +65,11 @@ caller_refused {K} {T} counted pseudokey_of hashing start ward_bits may own clie
     handed_on (λ fault. storm_fault_number fault ≡ ask_fault_number asked) (IsCallerFault {K = K} counted pseudokey_of hashing start ward_bits (may own) own calls)
     (λ fault number. (done + 1, omega arith, within, old, new, asked, walked, number, λ page. reached (asked_page asked (sym number ∙ ap storm_fault_number page)))) result refused
 
-pub keeper_round_more : {K : Type 0} (may : ℕ → Bool → Type 0) (pseudokey_of : K → List ℕ → ℕ) (done merges : ℕ) (passed : Bool) → AreKeeperRounds pseudokey_of may done → may (done + 1) passed → passed ≡ true → IsKeeperRound pseudokey_of merges
-    → AreKeeperRounds pseudokey_of may (done + 1)
-keeper_round_more {K} may pseudokey_of done merges passed so_far says true_is round = (
+pub keeper_round_more : {K : Type 0} (may : ℕ → Bool → Type 0) (pseudokey_of : K → List ℕ → ℕ) (ward done merges : ℕ) (passed : Bool) → AreKeeperRounds pseudokey_of ward may done → may (done + 1) passed → passed ≡ true → IsKeeperRound pseudokey_of ward merges
+    → AreKeeperRounds pseudokey_of ward may (done + 1)
+keeper_round_more {K} may pseudokey_of ward done merges passed so_far says true_is round = (
   so_far.0 ++ merges ∷ [],
-  one_more (λ place made. may (place + 1) true × IsKeeperRound {K = K} pseudokey_of made) done so_far.0 merges (so_far.0 ++ merges ∷ []) so_far.1 (subst (may (done + 1)) true_is says, round) refl,
+  one_more (λ place made. may (place + 1) true × IsKeeperRound {K = K} pseudokey_of ward made) done so_far.0 merges (so_far.0 ++ merges ∷ []) so_far.1 (subst (may (done + 1)) true_is says, round) refl,
 )
 
 pub courier_round_more : (may : ℕ → Bool → Type 0) (done : ℕ) (old between new : Additions) (cursors at lasts : List ℕ) (passed : Bool) → AreCourierRounds may done old cursors between at → may (done + 1) passed → passed ≡ true → IsCourierRound between at new lasts

@@ -42,9 +42,9 @@ IsCourierFault may rounds Page = ⊥
 IsCourierFault may rounds Mismatch = ⊥
 IsCourierFault may rounds Seats = ⊥
 
--- so many rounds of a keeper, before each of which the gate may say yes at its turn, from 1 on; each made some merges
-abbrev pub AreKeeperRounds : {K : Type 0} → (K → List ℕ → ℕ) → (ℕ → Bool → Type 0) → ℕ → Type 0
-AreKeeperRounds {K} pseudokey_of may rounds = (made : List ℕ) × AreFirst (λ round merges. may (round + 1) true × IsKeeperRound {K = K} pseudokey_of merges) rounds made
+-- so many rounds of the keeper of a ward, before each of which the gate may say yes at its turn, from 1 on; each made some merges
+abbrev pub AreKeeperRounds : {K : Type 0} → (K → List ℕ → ℕ) → ℕ → (ℕ → Bool → Type 0) → ℕ → Type 0
+AreKeeperRounds {K} pseudokey_of ward may rounds = (made : List ℕ) × AreFirst (λ round merges. may (round + 1) true × IsKeeperRound {K = K} pseudokey_of ward merges) rounds made
 
 -- a courier's round: the copy takes notices ward by ward, each ward's from its old cursor to its new one, and all that is pending is published
 abbrev pub IsCourierRound : Additions → List ℕ → Additions → List ℕ → Type 0

@@ -34,7 +34,7 @@ impl Keeper {
         watch: &W,
     ) -> Result<(), StormFault>
         requires { self.ward < 2 ^ file.now.ward_bits }
-        ensures rounds { IfOk result (λ _. AreKeeperRounds K.pseudokey_of (G.may gate.now (KEEPER_CLIENT + self.ward)) rounds) }
+        ensures rounds { IfOk result (λ _. AreKeeperRounds K.pseudokey_of self.ward (G.may gate.now (KEEPER_CLIENT + self.ward)) rounds) }
         ensures fault { IfErr result (IsKeeperFault (IsSomeWardsFault P.failures K.pseudokey_of OutOfReach) (G.may gate.now (KEEPER_CLIENT + self.ward)) rounds) }
     {
         for done in 0..rounds {

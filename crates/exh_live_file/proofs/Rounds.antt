@@ -79,11 +79,11 @@ module _ {K : Type 0} {ward now : WardState K} {at : ℕ} where
     refused_sparse fault same few refused = may_refuse ward at sum is.0 is.1 (omega (arith, few)) fault (subst (λ w. MergeRefused w at fault) same refused)
 
 -- a keeper's turn more
-pub one_turn_more : {K : Type 0} (pseudokey_of : K → List ℕ → ℕ) (page merges now : ℕ) (merged : Bool) → AreKeeperTurns pseudokey_of page merges → IsSomeKeeperTurn {K = K} pseudokey_of page merged → now ≡ merges + cond merged 1 0
-    → AreKeeperTurns pseudokey_of (page + 1) now
-one_turn_more {K} pseudokey_of page merges now merged (turns, are, count) turn is = (
+pub one_turn_more : {K : Type 0} (pseudokey_of : K → List ℕ → ℕ) (number page merges now : ℕ) (merged : Bool) → AreKeeperTurns pseudokey_of number page merges → IsSomeKeeperTurn {K = K} pseudokey_of number page merged → now ≡ merges + cond merged 1 0
+    → AreKeeperTurns pseudokey_of number (page + 1) now
+one_turn_more {K} pseudokey_of number page merges now merged (turns, are, count) turn is = (
   turns ++ merged ∷ [],
-  one_more (IsSomeKeeperTurn {K = K} pseudokey_of) page turns merged (turns ++ merged ∷ []) are turn refl,
+  one_more (IsSomeKeeperTurn {K = K} pseudokey_of number) page turns merged (turns ++ merged ∷ []) are turn refl,
   omega (arith, is, count, sum_by-append (λ (m : Bool). cond m 1 0) turns (merged ∷ []), sum_by-cons (λ (m : Bool). cond m 1 0) merged []),
 )
 

@@ -1,5 +1,5 @@
 -- What the rounds of keepers and couriers come to.
-use Rattle.std.specs.Prelude.{◌≡◌, ⊤, ℕ, ◌+◌, ◌*◌, ◌^◌, ◌≤◌, Bool, true, false, ◌&&◌, nat_eq, leb, if◌then◌else◌, List, [], ◌∷◌, ◌++◌, length, slice_get, sum_by, count_by, map, Some}
+use Rattle.std.specs.Prelude.{◌≡◌, ◌≢◌, ⊤, ℕ, ◌+◌, ◌*◌, ◌^◌, ◌≤◌, Bool, true, false, ◌&&◌, nat_eq, leb, if◌then◌else◌, List, [], ◌∷◌, ◌++◌, length, slice_get, sum_by, count_by, map, Some}
 use Rattle.std.specs.FinMap.{entries}
 use Rattle.exh_prefix.specs.Leading.{ward_of}
 use Rattle.exh_prefix.specs.Prefix.{low_of}
@@ -27,21 +27,29 @@ abbrev pub IsKeeperTurn : {K : Type 0} → WardState K → ℕ → Bool → Ward
 IsKeeperTurn old at true new = AreSparse old at × ((notice : Notice) × IsMergeStep old at notice new)
 IsKeeperTurn old at false new = (new ≡ old) × (AreSparse old at → MergeRefused old at Worn)
 
--- such a turn in some sound ward
-abbrev pub IsSomeKeeperTurn : {K : Type 0} → (K → List ℕ → ℕ) → ℕ → Bool → Type 0
-IsSomeKeeperTurn {K} pseudokey_of at merged = (old new : WardState K) × IsSoundWard pseudokey_of old × IsKeeperTurn old at merged new
+-- such a turn in the ward of a number; a ward of another number isn't touched
+abbrev pub IsKeeperTurnOf : {K : Type 0} → ℕ → WardState K → ℕ → Bool → WardState K → Type 0
+IsKeeperTurnOf number old at merged new = (old.number ≡ number → IsKeeperTurn old at merged new) × (old.number ≢ number → (merged ≡ false) × (new ≡ old))
 
--- a turn at each of the first so many pages, in order, by which so many merges were made
-abbrev pub AreKeeperTurns : {K : Type 0} → (K → List ℕ → ℕ) → ℕ → ℕ → Type 0
-AreKeeperTurns {K} pseudokey_of pages merges = (turns : List Bool) × AreFirst (IsSomeKeeperTurn {K = K} pseudokey_of) pages turns × (merges ≡ count_by (λ merged. merged) turns)
+-- so in some sound ward
+abbrev pub IsSomeKeeperTurn : {K : Type 0} → (K → List ℕ → ℕ) → ℕ → ℕ → Bool → Type 0
+IsSomeKeeperTurn {K} pseudokey_of number at merged = (old new : WardState K) × IsSoundWard pseudokey_of old × IsKeeperTurnOf number old at merged new
 
--- some sound ward had so many pages
-abbrev pub HadSoManyPages : {K : Type 0} → (K → List ℕ → ℕ) → ℕ → Type 0
-HadSoManyPages {K} pseudokey_of count = (ward : WardState K) × IsSoundWard pseudokey_of ward × (count ≡ length ward.pages)
+-- a turn at each of the first so many pages of the ward of a number, in order, by which so many merges were made
+abbrev pub AreKeeperTurns : {K : Type 0} → (K → List ℕ → ℕ) → ℕ → ℕ → ℕ → Type 0
+AreKeeperTurns {K} pseudokey_of number pages merges = (turns : List Bool) × AreFirst (IsSomeKeeperTurn {K = K} pseudokey_of number) pages turns × (merges ≡ count_by (λ merged. merged) turns)
 
--- a keeper's round that made so many merges: a turn at each page that there was
-abbrev pub IsKeeperRound : {K : Type 0} → (K → List ℕ → ℕ) → ℕ → Type 0
-IsKeeperRound {K} pseudokey_of merges = (pages : ℕ) × HadSoManyPages {K = K} pseudokey_of pages × AreKeeperTurns {K = K} pseudokey_of pages merges
+-- so many pages are the ward's, where it is that of a number; else none
+abbrev pub HasSoManyPages : {K : Type 0} → ℕ → WardState K → ℕ → Type 0
+HasSoManyPages number ward count = (ward.number ≡ number → count ≡ length ward.pages) × (ward.number ≢ number → count ≡ 0)
+
+-- so of some sound ward
+abbrev pub HadSoManyPages : {K : Type 0} → (K → List ℕ → ℕ) → ℕ → ℕ → Type 0
+HadSoManyPages {K} pseudokey_of number count = (ward : WardState K) × IsSoundWard pseudokey_of ward × HasSoManyPages number ward count
+
+-- a keeper's round over the ward of a number that made so many merges: a turn at each page that there was
+abbrev pub IsKeeperRound : {K : Type 0} → (K → List ℕ → ℕ) → ℕ → ℕ → Type 0
+IsKeeperRound {K} pseudokey_of number merges = (pages : ℕ) × HadSoManyPages {K = K} pseudokey_of number pages × AreKeeperTurns {K = K} pseudokey_of number pages merges
 
 -- what a merge of sparse pages may be refused for
 abbrev pub MayRefuseKeeper : WardFault → Type 0

@@ -9,7 +9,7 @@ ghost use Rattle.exh_route.specs.WardRun.{HopAt, SplitAt, answer_of};
 ghost use Rattle.exh_ward.specs.declared.ward_fault.WardFault.TheVariants.{Worn};
 ghost use Rattle.exh_walk.specs.WardStep.{IsWardStep};
 ghost use Rattle.exh_live_file.specs.Refused.{IsSomeWardsFault};
-ghost use Rattle.exh_live_file.specs.Rounds.{IsKeeperTurn, MayRefuseKeeper};
+ghost use Rattle.exh_live_file.specs.Rounds.{HasSoManyPages, IsKeeperTurn, IsKeeperTurnOf, MayRefuseKeeper};
 ghost use Rattle.exh_live_file.specs.WardParts.{parts_of_number, ward_parts};
 
 use crate::Identity;
@@ -171,23 +171,33 @@ impl<P: Pages + Drop, K: Keyer, F: Identity> TalliedWard<P, K, F> {
         split
     }
 
-    /// How many pages the ward has.
-    pub(crate) fn page_count(&self) -> PageNo
-        ensures count { result ≡ length self.now.ward.pages }
+    /// How many pages the ward has, where it is the one of a number, and else 0.
+    pub(crate) fn page_count(&self, number: u8) -> PageNo
+        ensures count { HasSoManyPages number self.now.ward result }
         ensures sound { IsSoundWard K.pseudokey_of self.now.ward }
     {
         // By whose contract the ward is sound.
         self.ward.journal();
-        self.ward.page_count()
+        if self.ward.number() == number {
+            self.ward.page_count()
+        } else {
+            0
+        }
     }
 
-    /// A keeper's turn at a page, as `keep`. A page out of reach is one that a store of the ward's kind has counted.
-    pub(crate) fn keep_counted(&mut self, page: PageNo) -> Result<bool, WardFault>
+    /// A keeper's turn at a page of the ward of a number, as `keep`; where the ward has another number, nothing
+    /// changes. A page out of reach is one that a store of the ward's kind has counted.
+    pub(crate) fn keep_counted(&mut self, number: u8, page: PageNo) -> Result<bool, WardFault>
         ensures sound { IsSoundWard K.pseudokey_of self.old.ward }
-        ensures kept { IfOk result (λ merged. IsKeeperTurn self.old.ward page merged self.new.ward) }
+        ensures kept { IfOk result (λ merged. IsKeeperTurnOf number self.old.ward page merged self.new.ward) }
         ensures fault { IfErr result IsStoreFault }
         ensures refused { IfErr result (IsSomeWardsFault P.failures K.pseudokey_of) }
     {
+        if self.ward.number() != number {
+            // By whose contract the ward is sound.
+            self.ward.journal();
+            return Ok(false);
+        }
         let kept = self.keep(page);
         // By whose contract a store has counted as many.
         self.ward.failures();

@@ -1,10 +1,9 @@
-use Rattle.std.proofs.Common.{◌≡◌, List, ◌++◌, length, take, drop, refl, sym, ap, ◌∙◌, subst}
+use Rattle.std.proofs.Common.{◌≡◌, List, length, take, drop, refl, sym, ap, ◌∙◌, subst}
 use Rattle.exh_keyer.specs.declared.any_keyer.AnyKeyer.{AnyKeyer}
 use Rattle.exh_cells.specs.PlacedFile.{lows_of}
-use Rattle.exh_placing.specs.declared.page_at.PageAt.{PageAt}
 use Rattle.exh_ward.specs.WardState.{WardState}
-use Rattle.exh_file.specs.Opened.{AreWardsOf, OpenedState, in_file}
-use Rattle.exh_file.specs.Placing.{IsPlacedSo, IsPlacingOf, IsWardOrder, ordered_pages}
+use Rattle.exh_file.specs.Opened.{AreWardsOf, in_file}
+use Rattle.exh_file.specs.Placing.{IsWardOrder, ordered_pages}
 use Rattle.exh_file.specs.Saved.{AreSound}
 use Rattle.exh_file.proofs.Left.{put_back}
 use Rattle.exh_file.proofs.draft.drafted.Goals as goal
@@ -23,8 +22,8 @@ new-requires g c =
     let whole = put_back vec.len left (drop (length left) vec.items) (vec.ok.0 ∙ ap length (sym same)) ∙ same in
     subst (λ (wards : List (WardState AnyKeyer)). AreWardsOf (in_file c.args.settings wards)) (sym whole) c.requires.wards
 
-pub returns-in-Some : goal.returns-in-Some
-returns-in-Some g c =
+pub returns-in-Some-clause-ok : goal.returns-in-Some-clause-ok
+returns-in-Some-clause-ok g c =
     let vec = c.args.wards in
     let left = c.placing_in.new.wards in
     let same : left ≡ vec.items = c.in_ok-placing.ensures.same ∙ c.deref_mut.ensures.value in

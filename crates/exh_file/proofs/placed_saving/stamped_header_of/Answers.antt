@@ -1,4 +1,4 @@
-use Rattle.std.proofs.Common.{◌≡◌, sym, subst}
+use Rattle.std.proofs.Common.{sym, subst}
 use Rattle.exh_cells.specs.StampedHeader.{IsStampedHeader}
 use Rattle.exh_file.specs.declared.placing.Stamps.{Stamps}
 use Rattle.exh_file.specs.Opened.{in_file}

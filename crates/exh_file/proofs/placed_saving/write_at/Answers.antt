@@ -1,5 +1,5 @@
 use borrow.Author.Rules.{scaled_Fits}
-use Rattle.std.proofs.Common.{◌≡◌, ℕ, ◌<◌, ◌≤◌, ◌++◌, List, length, get_or, slice_get, Some, Err, refl, sym, ap, ◌∙◌, subst}
+use Rattle.std.proofs.Common.{◌≡◌, ℕ, ◌<◌, ◌++◌, List, length, get_or, slice_get, Some, Err, sym, ap, ◌∙◌, subst}
 use Rattle.std.specs.Prelude.{slice_set}
 use Rattle.std.proofs.lemmas.Option.{slice_get-get_or}
 use Rattle.exh_prefix.specs.PrefixListLemmas.{set_same}
@@ -10,7 +10,6 @@ use Rattle.exh_stream.specs.OutputLemmas.{OnErr-from, TakesBeginning-none}
 use Rattle.exh_format.specs.PageFile.{page_block}
 use Rattle.exh_placing.specs.Writing.{opening}
 use Rattle.exh_ward.specs.WardState.{WardState}
-use Rattle.exh_file_faults.specs.SaveFault.{CountsSaveFailures}
 use Rattle.exh_file.specs.Saved.{AreUnchanged, failures_in}
 use Rattle.exh_file.specs.LeftLemmas.{still_the_same}
 use Rattle.exh_file.proofs.Left.{counted_as, one_counted, one_touched}

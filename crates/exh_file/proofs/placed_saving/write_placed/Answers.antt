@@ -9,7 +9,7 @@ use Rattle.exh_stream.specs.Output.{AppendsBeginning, Takes, TakesBeginning, hel
 use Rattle.exh_stream.specs.OutputLemmas.{OnErr-from, Takes-cut, Takes-finished, Takes-then, TakesBeginning-left, TakesBeginning-of_more, TakesBeginning-then}
 use Rattle.exh_cells.specs.declared.cell.Cell.{Cell}
 use Rattle.exh_cells.specs.declared.stamped_header.StampedHeader.{StampedHeader}
-use Rattle.exh_cells.specs.PlacedFile.{PlacedFile, placed_bytes, stamped_block}
+use Rattle.exh_cells.specs.PlacedFile.{placed_bytes, stamped_block}
 use Rattle.exh_cells.specs.StampedHeader.{IsStampedHeader}
 use Rattle.exh_placing.specs.declared.page_at.PageAt.{PageAt}
 use Rattle.exh_placing.specs.Writing.{PlacesMakeFile, bytes_to, place_bytes}

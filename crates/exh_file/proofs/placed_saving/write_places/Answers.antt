@@ -1,4 +1,4 @@
-use Rattle.std.proofs.Common.{◌≡◌, ℕ, ◌+◌, ◌<◌, ◌++◌, List, [], ◌∷◌, length, take, get_or, slice_get, Some, Option, append-nil, refl, sym, ap, ◌∙◌, subst, arith}
+use Rattle.std.proofs.Common.{◌≡◌, ℕ, ◌+◌, ◌<◌, ◌++◌, List, [], ◌∷◌, length, get_or, slice_get, Some, Option, append-nil, refl, sym, ap, ◌∙◌, subst, arith}
 use Rattle.std.specs.List.{AllByRecursion, flat_map, range_with_len}
 use Rattle.std.specs.Option.{option_map_or}
 use Rattle.std.proofs.lemmas.List.{take_all}
@@ -8,7 +8,6 @@ use Rattle.std.proofs.lemmas.Option.{slice_get-get_or}
 use Rattle.exh_prefix.specs.Layout.{written_version}
 use Rattle.exh_keyer.specs.declared.any_keyer.AnyKeyer.{AnyKeyer}
 use Rattle.exh_page.specs.declared.page.Page.{Page}
-use Rattle.exh_page.specs.declared.page.TheConstants.{CAP_LIMIT}
 use Rattle.exh_codec.specs.PageImage.{IsInRange}
 use Rattle.exh_format.specs.PageFile.{page_block}
 use Rattle.exh_placing.specs.declared.page_at.PageAt.{PageAt}

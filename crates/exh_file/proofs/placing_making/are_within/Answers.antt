@@ -1,8 +1,8 @@
-use Rattle.std.proofs.Common.{◌≡◌, ℕ, zero, suc, ◌+◌, ◌<◌, ◌≤◌, nat_eq, eq-eqb, true, false, List, length, take, get_or, slice_get, Some, inl, inr, refl, sym, ap, ◌∙◌, subst, arith}
-use Rattle.std.proofs.lemmas.Bool.{cases_eq, cases_lt}
+use Rattle.std.proofs.Common.{◌≡◌, ℕ, zero, suc, ◌+◌, ◌<◌, ◌≤◌, nat_eq, eq-eqb, false, cond, List, length, take, get_or, slice_get, Some, inl, inr, refl, sym, ap, ◌∙◌, subst, arith}
+use Rattle.std.proofs.lemmas.Bool.{cases_eq, cases_lt, false≢true}
 use Rattle.std.proofs.lemmas.Bool.Decides.{eqb_tells}
 use Rattle.std.proofs.lemmas.List.{take_all}
-use Rattle.std.proofs.lemmas.List.Sums.{count_by_more_no, count_by_more_yes}
+use Rattle.std.proofs.lemmas.List.Sums.{count_by_more_no, count_by_more_yes, sum_by-take-drop}
 use Rattle.std.proofs.lemmas.Option.{slice_get-get_or}
 use Rattle.exh_prefix.specs.PrefixListLemmas.{one_there}
 use Rattle.exh_placing.specs.declared.page_at.PageAt.{PageAt}
@@ -44,6 +44,16 @@ within_all : (counts : List ℕ) (order : List PageAt) → IsNumbered order → 
 within_all counts order numbered below ward =
     subst (λ (pages : List PageAt). own_in pages ward ≤ get_or counts ward 0) (take_all (length order) order (omega arith)) (within_front counts order numbered below ward (length order) (omega arith))
 
+-- a page of an order within the counts is one of its ward's
+within_each : (counts : List ℕ) (order : List PageAt) → IsNumbered order → IsWithin counts order → (place : ℕ) → place < length order → (get_or order place nowhere).number < get_or counts (get_or order place nowhere).ward 0
+within_each counts order numbered within place less =
+    let page = get_or order place nowhere in
+    let number = numbered place page (slice_get-get_or order place nowhere less) in
+    let more = count_by_more_yes (λ (p : PageAt). nat_eq p.ward page.ward) order place nowhere less (eq-eqb page.ward page.ward refl) in
+    let whole = sum_by-take-drop (λ (p : PageAt). cond (nat_eq p.ward page.ward) 1 0) order (place + 1) in
+    let most = within page.ward in
+    omega (arith, number, more, whole, most)
+
 pub loop-place-init : goal.loop-place-init
 loop-place-init c = λ place page less is. absurd (omega (arith, less))
 
@@ -51,7 +61,7 @@ pub loop-place-preserved : goal.loop-place-preserved
 loop-place-preserved c =
     let order = c.args.order.now in
     let at = c.loop-place.place in
-    let here = c.is_within.ensures c.if-not-is_within.false in
+    let here = c.is_within.ensures.0 c.if-not-is_within.false in
     λ place page less is. elim (cases_lt place at) [
       | inl under ↦ c.loop-place.invariant place page under is
       | inr past ↦
@@ -62,4 +72,10 @@ loop-place-preserved c =
     ]
 
 pub returns : goal.returns
-returns c = λ _. within_all c.args.counts.now c.args.order.now c.requires (λ place page less is. c.loop-place.invariant place page (omega (arith, less, c.loop-place-test.false)) is)
+returns c = (λ _. within_all c.args.counts.now c.args.order.now c.requires (λ place page less is. c.loop-place.invariant place page (omega (arith, less, c.loop-place-test.false)) is), λ _. refl)
+
+pub returns-then-not-is_within : goal.returns-then-not-is_within
+returns-then-not-is_within c = (
+  λ is. absurd (false≢true is),
+  λ within. sym c.if-not-is_within.true ∙ c.is_within.ensures.1 (within_each c.args.counts.now c.args.order.now c.requires within c.loop-place.place c.loop-place-test.true),
+)

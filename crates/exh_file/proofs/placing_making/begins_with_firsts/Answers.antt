@@ -1,4 +1,4 @@
-use Rattle.std.proofs.Common.{◌≡◌, ℕ, ◌+◌, ◌<◌, ◌≤◌, List, length, get_or, slice_get, Some, inl, inr, sym, ap, ◌∙◌, subst, arith}
+use Rattle.std.proofs.Common.{◌≡◌, ℕ, ◌+◌, ◌<◌, List, length, slice_get, Some, inl, inr, ap, ◌∙◌, subst, arith}
 use Rattle.std.proofs.lemmas.Bool.{cases_lt}
 use Rattle.std.proofs.lemmas.Option.{slice_get-get_or}
 use Rattle.exh_placing.specs.declared.page_at.PageAt.{PageAt}
@@ -22,5 +22,5 @@ loop-ward-preserved c =
     let less : at < length order = omega (arith, c.loop-ward-test.true, room) in
     record {
       room = room;
-      firsts = one_more order at c.loop-ward.invariant.firsts (slice_get-get_or order at nowhere less ∙ ap (λ (page : PageAt). Some page) (c.is_first.ensures c.if-not-is_first.false));
+      firsts = one_more order at c.loop-ward.invariant.firsts (slice_get-get_or order at nowhere less ∙ ap (λ (page : PageAt). Some page) (c.is_first.ensures.0 c.if-not-is_first.false));
     }

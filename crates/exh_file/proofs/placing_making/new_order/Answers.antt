@@ -1,4 +1,4 @@
-use Rattle.std.proofs.Common.{◌≡◌, ℕ, ◌<◌, ◌≤◌, List, length, get_or, sym, ap, ◌∙◌, subst, arith}
+use Rattle.std.proofs.Common.{ℕ, ◌<◌, ◌≤◌, List, length, get_or, sym, ap, subst, arith}
 use Rattle.exh_file.specs.Opened.{in_file}
 use Rattle.exh_file.proofs.Counts.{counts_front, counts_len, some_each}
 use Rattle.exh_file.proofs.placing_making.new_order.Goals as goal

@@ -1,11 +1,11 @@
-use Rattle.std.proofs.Common.{◌≡◌, ℕ, ◌<◌, ◌≤◌, List, length, map, refl, sym, ap, ◌∙◌, subst, arith}
+use Rattle.std.proofs.Common.{ℕ, List, length, sym, ap, ◌∙◌, subst, arith}
+use Rattle.std.proofs.lemmas.Bool.{false≢true}
 use Rattle.std.proofs.lemmas.List.{length-map}
 use Rattle.exh_prefix.specs.Leading.{ward_of}
 use Rattle.exh_placing.specs.declared.page_at.PageAt.{PageAt}
 use Rattle.exh_placing.specs.Order.{BeginsWithFirsts, IsNumbered, IsOrderOf, IsWithin, with_others}
-use Rattle.exh_file.specs.Placing.{IsWardOrder}
-use Rattle.exh_file.specs.Saved.{pages_of_all}
 use Rattle.exh_file.proofs.Counts.{counts_front, counts_len}
+use Rattle.exh_file.proofs.placing_making.order_grown.Goals.{then-not-are_within-via-then-not-are_within, then-not-are_within-via-else-not-are_within+then-not-begins_with_firsts}
 use Rattle.exh_file.proofs.placing_making.order_grown.Goals as goal
 
 pub are_within-requires : goal.are_within-requires
@@ -21,13 +21,13 @@ pub grown_order-requires-clause-numbered : goal.grown_order-requires-clause-numb
 grown_order-requires-clause-numbered g c = subst IsNumbered (sym c.deref-2.ensures.value) c.in_ok-placed.ensures.order.numbered
 
 pub grown_order-requires-clause-within : goal.grown_order-requires-clause-within
-grown_order-requires-clause-within g c = subst (IsWithin _) (c.deref.ensures.value ∙ sym c.deref-2.ensures.value) (c.are_within.ensures c.if-not-are_within.false)
+grown_order-requires-clause-within g c = subst (IsWithin _) (c.deref.ensures.value ∙ sym c.deref-2.ensures.value) (c.are_within.ensures.0 c.if-not-are_within.false)
 
 pub returns-clause-order : goal.returns-clause-order
 returns-clause-order g c =
     let wards = c.args.wards.now in
     let front = counts_front wards c.header_of-header.result.page_counts (ap (λ header. header.page_counts) c.header_of-header.ensures.header) in
-    let begun = subst (BeginsWithFirsts (length _)) (c.deref-else-not-are_within.ensures.value ∙ sym c.deref-2.ensures.value) (c.begins_with_firsts.ensures c.if-not-begins_with_firsts.false) in
+    let begun = subst (BeginsWithFirsts (length _)) (c.deref-else-not-are_within.ensures.value ∙ sym c.deref-2.ensures.value) (c.begins_with_firsts.ensures.0 c.if-not-begins_with_firsts.false) in
     let firsts = c.in_ok-grown_order.ensures.firsts _ begun in
     record {
       all = subst (λ (counts : List ℕ). IsOrderOf counts c.in_ok-grown_order.field-0.items) front c.in_ok-grown_order.ensures.order;
@@ -43,3 +43,19 @@ returns-clause-grown g c =
       placed_is = c.in_ok-placed.ensures.order;
       order_is = c.in_ok-grown_order.ensures.whole ∙ (λ i. with_others (front i) (c.deref-2.ensures.value i));
     }
+
+pub returns-then-not-are_within-clause-none : goal.returns-then-not-are_within-clause-none
+returns-then-not-are_within-clause-none g c = λ have.
+    let wards = c.args.wards.now in
+    let placed = c.in_ok-placed.placed.items in
+    let front = counts_front wards c.header_of-header.result.page_counts (ap (λ header. header.page_counts) c.header_of-header.ensures.header) in
+    let theirs = have.theirs placed c.in_ok-placed.ensures.order in
+    elim c.then-not-are_within.branch [
+      | then-not-are_within-via-then-not-are_within w ↦
+          let within = subst (λ (counts : List ℕ). IsWithin counts c.deref.result.now) (sym front) (subst (IsWithin _) (sym c.deref.ensures.value) theirs.0) in
+          false≢true (sym w.if-not-are_within.true ∙ c.are_within.ensures.1 within)
+      | then-not-are_within-via-else-not-are_within+then-not-begins_with_firsts w ↦
+          let count = sym (ap length front ∙ counts_len wards) in
+          let begun = subst (λ (n : ℕ). BeginsWithFirsts n w.deref-else-not-are_within.result.now) count (subst (BeginsWithFirsts (length wards)) (sym w.deref-else-not-are_within.ensures.value) theirs.1) in
+          false≢true (sym w.if-not-begins_with_firsts.true ∙ w.begins_with_firsts.ensures.1 begun)
+    ]

@@ -1,11 +1,8 @@
-use Rattle.std.proofs.Common.{◌≡◌, ℕ, ◌<◌, ◌≤◌, List, length, map, take, refl, sym, ap, ◌∙◌, subst, arith}
+use Rattle.std.proofs.Common.{◌≡◌, ℕ, List, length, take, refl, sym, ap, ◌∙◌, subst, arith}
 use Rattle.std.proofs.lemmas.List.{length-map}
-use Rattle.exh_prefix.specs.declared.prefix.TheConstants.{WARD_BITS_LIMIT}
 use Rattle.exh_keyer.specs.Pseudokey.{any_pseudokey}
 use Rattle.exh_keyer.specs.declared.any_keyer.AnyKeyer.{AnyKeyer}
-use Rattle.exh_table.specs.Table.{TableMap}
 use Rattle.exh_page.specs.Page.{low_bound}
-use Rattle.exh_page.specs.declared.page.Page.{Page}
 use Rattle.exh_legal.specs.LegalLaws.{FittingTablesBeginWards}
 use Rattle.exh_cells.specs.CellLaws.{AreApart, AreTold}
 use Rattle.exh_cells.specs.PlacedFile.{lows_of}
@@ -77,4 +74,4 @@ pub returns-clause-begins : goal.returns-clause-begins
 returns-clause-begins g c =
     let wards = c.args.wards.now in
     let lows = c.deref-2.ensures.value ∙ c.in_ok-lows.ensures.lows ∙ ap (λ (order : List PageAt). lows_of (ordered_pages wards order)) c.deref.ensures.value in
-    subst (λ (l : List ℕ). take (length c.args.old.now) l ≡ c.args.old.now) lows (c.begins_with.ensures c.if-not-begins_with.false)
+    subst (λ (l : List ℕ). take (length c.args.old.now) l ≡ c.args.old.now) lows (c.begins_with.ensures.0 c.if-not-begins_with.false)

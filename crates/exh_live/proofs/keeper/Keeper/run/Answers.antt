@@ -15,4 +15,4 @@ loop-done-preserved g c =
     let may = g.G.Gate.may c.args.gate.now in
     let turn = c.loop-done.done + 1 in
     let says = subst (λ ward. may (KEEPER_CLIENT + ward) turn c.pass.result) c.from.ensures c.pass.ensures in
-    keeper_round_more (may (KEEPER_CLIENT + c.args.self.ward)) g.K.Keyer.pseudokey_of c.loop-done.done c.in-Ok.merges c.pass.result c.loop-done.invariant says c.if-not-pass.false c.in-Ok.ensures.round
+    keeper_round_more (may (KEEPER_CLIENT + c.args.self.ward)) g.K.Keyer.pseudokey_of c.args.self.ward c.loop-done.done c.in-Ok.merges c.pass.result c.loop-done.invariant says c.if-not-pass.false c.in-Ok.ensures.round

@@ -5,4 +5,4 @@ use Rattle.exh_live.proofs.keeper.Keeper.run.Given as goal
 
 -- the rounds so far
 abbrev pub invariant-loop-done : goal.invariant-loop-done
-invariant-loop-done g l = AreKeeperRounds g.K.Keyer.pseudokey_of (g.G.Gate.may l.gate (KEEPER_CLIENT + l.self.ward)) l.done
+invariant-loop-done g l = AreKeeperRounds g.K.Keyer.pseudokey_of l.self.ward (g.G.Gate.may l.gate (KEEPER_CLIENT + l.self.ward)) l.done

@@ -20,18 +20,18 @@ pub loop-page-preserved : goal.loop-page-preserved
 loop-page-preserved g c =
     let merged = c.in_ok-keep_counted.field-0 in
     let was = c.loop-page.invariant in
-    let turn : IsSomeKeeperTurn g.K.Keyer.pseudokey_of c.loop-page.page merged = (_, _, c.in_ok-keep_counted.ensures.sound, c.in_ok-keep_counted.ensures.kept) in
+    let turn : IsSomeKeeperTurn g.K.Keyer.pseudokey_of c.args.ward c.loop-page.page merged = (_, _, c.in_ok-keep_counted.ensures.sound, c.in_ok-keep_counted.ensures.kept) in
     elim c.if-branch.branch [
       | then-branch w ↦
           let one = ap {B = ℕ} (λ (b : Bool). cond b 1 0) w.if-branch.true in
           record {
-            turns = one_turn_more g.K.Keyer.pseudokey_of c.loop-page.page c.loop-page.merges c.if-branch.merges merged was.turns turn (one_counted _ _ _ w.merges-is one);
+            turns = one_turn_more g.K.Keyer.pseudokey_of c.args.ward c.loop-page.page c.loop-page.merges c.if-branch.merges merged was.turns turn (one_counted _ _ _ w.merges-is one);
             few = one_more_few _ _ _ was.few w.merges-is;
           }
       | else-branch w ↦
           let none = ap {B = ℕ} (λ (b : Bool). cond b 1 0) w.if-branch.false in
           record {
-            turns = one_turn_more g.K.Keyer.pseudokey_of c.loop-page.page c.loop-page.merges c.if-branch.merges merged was.turns turn (none_counted _ _ _ w.merges-is none);
+            turns = one_turn_more g.K.Keyer.pseudokey_of c.args.ward c.loop-page.page c.loop-page.merges c.if-branch.merges merged was.turns turn (none_counted _ _ _ w.merges-is none);
             few = none_more_few _ _ _ was.few w.merges-is;
           }
     ]
@@ -39,4 +39,4 @@ loop-page-preserved g c =
 pub returns-clause-round : goal.returns-clause-round
 returns-clause-round g c =
     let all : c.loop-page.page ≡ c.page_count-pages.result = omega (arith, c.loop-page-test.false, c.loop-page.auto.page-end) in
-    (c.page_count-pages.result, (_, c.page_count-pages.ensures.sound, c.page_count-pages.ensures.count), subst (λ pages. AreKeeperTurns g.K.Keyer.pseudokey_of pages c.loop-page.merges) all c.loop-page.invariant.turns)
+    (c.page_count-pages.result, (_, c.page_count-pages.ensures.sound, c.page_count-pages.ensures.count), subst (λ pages. AreKeeperTurns g.K.Keyer.pseudokey_of c.args.ward pages c.loop-page.merges) all c.loop-page.invariant.turns)
