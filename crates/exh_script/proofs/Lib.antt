@@ -4,6 +4,7 @@ pub mod RequestLemmas
 pub mod Stepped
 pub mod LineMoments
 pub mod KeptWorlds
+pub mod KeptCounts
 pub mod KeptSettings
 pub mod WardSteps
 pub mod Journals

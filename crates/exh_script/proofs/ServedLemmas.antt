@@ -47,6 +47,16 @@ pub fault_differs : (fault : ResponseFault) → fault_of fault ≢ Write
 fault_differs line.Memory = λ is. cc
 fault_differs line.Page = λ is. cc
 
+-- only a page out of reach is told as one
+pub page_of : (fault : ResponseFault) → fault_of fault ≡ Page → fault ≡ line.Page
+page_of line.Memory is = cc
+page_of line.Page is = refl
+
+-- what holds where it is told, of a fault that is handed on
+pub page_handed : {T P : Type 0} (result : Result T ServeFault) (fault : ServeFault) → IsErr result × IsErrAnd result (λ f. f ≡ fault) → (fault ≡ Page → P) → IfErr result (λ f. f ≡ Page → P)
+page_handed (Ok value) fault is holds = tt
+page_handed (Err other) fault is holds = λ page. holds (sym is.1 ∙ page)
+
 -- ---- the test of the length, where it is decided
 
 text_at : (begin : Beginning) (script : List ℕ) (b : Bool) → leb (length script) SCRIPT_LIMIT ≡ b

@@ -1,9 +1,12 @@
 -- What the server prints and leaves, for the bytes that its reader has left.
-use Rattle.std.specs.Prelude.{◌≡◌, ◌⊎◌, ◌<◌, ◌≤◌, ℕ, List, [], ◌∷◌, ◌++◌, Option, None, IfErr, IfSome, Result, length}
+use Rattle.std.specs.Prelude.{◌≡◌, ◌⊎◌, ◌<◌, ◌≤◌, ℕ, List, [], ◌∷◌, ◌++◌, Option, None, Some, IfErr, IfSome, Result, length, slice_get}
+use Rattle.exh_keyer.specs.declared.any_keyer.AnyKeyer.{AnyKeyer}
 use Rattle.exh_text.specs.TextLines.{lines_of}
+use Rattle.exh_ward.specs.WardState.{WardState}
 use Rattle.exh_file.specs.Opened.{OpenedState}
+use Rattle.exh_load.specs.LoadFault.{HasCountedFrom}
 use Rattle.exh_line.specs.RefusalText.{refusal_text}
-use Rattle.exh_script.specs.Text.{Beginning, Start, ended_of, text_after, text_of_lines, text_of}
+use Rattle.exh_script.specs.Text.{Beginning, ScriptWorld, Start, ended_of, text_after, text_of_lines, text_of}
 use Rattle.exh_line.specs.declared.refusal.Refusal.{Refusal}
 use Rattle.exh_line.specs.declared.refusal.Refusal.TheVariants.{Read}
 use Rattle.exh_script.specs.declared.response_fault.ResponseFault.{ResponseFault}
@@ -20,9 +23,9 @@ abbrev pub fault_of : ResponseFault → ServeFault
 fault_of line.Memory = Memory
 fault_of line.Page = Page
 
--- a page out of reach is told only where a store of the run's kind has counted one
-abbrev pub CountsInStore : {P T : Type 0} → (P → ℕ) → Result T ServeFault → Type 0
-CountsInStore {P} failures result = IfErr result (λ fault. fault ≡ Page → (store : P) × (0 < failures store))
+-- a page out of reach is told only where a store of these failures has counted more than a ward of the opened file had; of a new file, one
+abbrev pub IsServeCounted : {P T : Type 0} → (P → ℕ) → Option OpenedState → Result T ServeFault → Type 0
+IsServeCounted failures from result = IfErr result (λ fault. fault ≡ Page → HasCountedFrom failures from)
 
 -- the only line where the reader failed
 unfoldable pub unread_text : List ℕ
@@ -76,3 +79,17 @@ module _ (begin : Beginning) (prints : List ℕ → Type 0) where
     pub script : List ℕ
     pub read : IfSome known (λ bytes. script ≡ bytes)
     pub lines : prints [] ⊎ ((length script ≤ SCRIPT_LIMIT) × PrintsFront (lines_of script))
+
+-- ---- of private functions
+
+-- a store of these failures has counted more than a ward of the world had
+abbrev pub HasCountedMore : {P : Type 0} → (P → ℕ) → ScriptWorld → Type 0
+HasCountedMore {P} failures world = (store : P) × (number : ℕ) × (ward : WardState AnyKeyer) × (slice_get world.wards number ≡ Some ward) × (ward.failures < failures store)
+
+-- for each ward that has met a page out of reach a store has counted as many
+abbrev pub HaveCounted : {P : Type 0} → (P → ℕ) → ScriptWorld → Type 0
+HaveCounted {P} failures world = (number : ℕ) (ward : WardState AnyKeyer) → slice_get world.wards number ≡ Some ward → 0 < ward.failures → (store : P) × (ward.failures ≤ failures store)
+
+-- the count of no ward is less than it was
+abbrev pub FallsNowhere : ScriptWorld → ScriptWorld → Type 0
+FallsNowhere old new = (number : ℕ) (after : WardState AnyKeyer) → slice_get new.wards number ≡ Some after → (ward : WardState AnyKeyer) × (slice_get old.wards number ≡ Some ward) × (ward.failures ≤ after.failures)

@@ -1,11 +1,10 @@
 -- The text of a script: a fold over its lines.
-use Rattle.std.specs.Prelude.{◌≡◌, ◌<◌, ℕ, Bool, List, [], ◌∷◌, ◌++◌, length, nat_le, slice_get, if◌then◌else◌, Some, Result, Ok, Err}
+use Rattle.std.specs.Prelude.{ℕ, Bool, List, [], ◌∷◌, ◌++◌, length, nat_le, if◌then◌else◌, Result, Ok, Err}
 use Rattle.exh_keyer.specs.declared.any_keyer.AnyKeyer.{AnyKeyer}
 use Rattle.exh_keyer.specs.Pseudokey.{any_pseudokey}
 use Rattle.exh_text.specs.TextLines.{lines_of}
 use Rattle.exh_text.specs.declared.line_fault.LineFault.{LineFault}
 use Rattle.exh_text.specs.declared.line_fault.LineFault.TheVariants.{Syntax}
-use Rattle.exh_ward.specs.WardState.{WardState}
 use Rattle.exh_world.specs.NewWorld.{new_world}
 use Rattle.exh_world.specs.Step.{CountsFailure}
 use Rattle.exh_world.specs.StepFunction.{result_of, world_after}
@@ -78,10 +77,6 @@ text_from tells_moves world (line ∷ lines) = response_text (line_response tell
 -- a line that met a page out of reach has no response: a ward of the world has counted that, and nothing else differs
 abbrev pub CountsPageFault : ScriptWorld → ScriptWorld → Type 0
 CountsPageFault old new = (number : ℕ) × CountsFailure old number new
-
--- a ward of the world has counted a page out of reach
-abbrev pub HasCounted : ScriptWorld → Type 0
-HasCounted world = (number : ℕ) × (ward : WardState AnyKeyer) × (slice_get world.wards number ≡ Some ward) × (0 < ward.failures)
 
 -- ---- the first line
 

@@ -4,10 +4,10 @@ ghost use Rattle.exh_page.specs.declared.page.TheConstants.{CAP_LIMIT};
 ghost use Rattle.exh_prefix.specs.declared.prefix.TheConstants.{WARD_BITS_LIMIT};
 ghost use Rattle.exh_line.specs.RefusalText.{refusal_text};
 ghost use Rattle.exh_script.specs.Replies.{world_left};
-ghost use Rattle.exh_script.specs.Text.{HasCounted, after_line, line_response, response_text, start_in, text_after, text_from, text_of_lines};
+ghost use Rattle.exh_script.specs.Text.{after_line, line_response, response_text, start_in, text_after, text_from, text_of_lines};
 ghost use Rattle.exh_script.specs.Left.{left_after, left_of_lines};
 ghost use Rattle.exh_script.specs.OpenedScript.{beginning};
-ghost use Rattle.exh_script.specs.Served.{CountsInStore, fault_of, PrintsFront, PrintsFrontFrom};
+ghost use Rattle.exh_script.specs.Served.{FallsNowhere, HasCountedMore, HaveCounted, IsServeCounted, fault_of, PrintsFront, PrintsFrontFrom};
 ghost use Rattle.exh_stream.specs.Output.{SameWriter, Takes, TakesBeginning, writer_failed};
 ghost use Rattle.exh_text.specs.TextLines.{lines_of};
 ghost use Rattle.exh_world.specs.Sound.{IsSoundWorld};
@@ -21,6 +21,7 @@ use exh_notes::Listener;
 use exh_stores::{Pages, StoreMaker};
 use exh_stream::Output;
 use exh_text::{LineFault, Lines, Settings, parse_file_line};
+use exh_world::steps_have_outcomes;
 use std::alloc::Global;
 use std::io::Write;
 
@@ -43,7 +44,7 @@ pub(crate) fn respond<P: Pages + Drop, M: StoreMaker<P, AnyKeyer>, W: Write, L: 
     ensures err { OnErr result (TakesBeginning W.contents output.old output.new (text_of_lines (beginning from) (lines_of script.now))) }
     ensures front { IfErr result (λ fault. fault ≢ ServeFault.Write → Takes W.contents output.old output.new []
         ⊎ PrintsFront (beginning from) (Takes W.contents output.old output.new) (lines_of script.now)) }
-    ensures counted { CountsInStore P.failures result }
+    ensures counted { IsServeCounted P.failures from result }
     ensures failed { IsErrOf result ServeFault.Write ↔ IsTrue (writer_failed output.new) }
 {
     let mut lines = Lines::new(script);
@@ -73,7 +74,7 @@ pub(crate) fn refuse<P: Pages + Drop, W: Write>(
     ensures left { IfOk result (λ left. left ≡ None) }
     ensures err { OnErr result (TakesBeginning W.contents output.old output.new (refusal_text refusal)) }
     ensures front { IfErr result (λ fault. fault ≢ ServeFault.Write → Takes W.contents output.old output.new []) }
-    ensures counted { CountsInStore P.failures result }
+    ensures reached { IfErr result (λ fault. fault ≢ ServeFault.Page) }
     ensures failed { IsErrOf result ServeFault.Write ↔ IsTrue (writer_failed output.new) }
 {
     let mut text = Vec::new(alloc);
@@ -103,7 +104,7 @@ fn serve_file<P: Pages + Drop, M: StoreMaker<P, AnyKeyer>, W: Write, L: Listener
     ensures err { OnErr result (TakesBeginning W.contents output.old output.new (text_after (start_in settings.now.tells_moves (beginning from settings.now.file)) lines.entry)) }
     ensures front { IfErr result (λ fault. fault ≢ ServeFault.Write → Takes W.contents output.old output.new []
         ⊎ PrintsFrontFrom (Takes W.contents output.old output.new) (start_in settings.now.tells_moves (beginning from settings.now.file)) lines.entry) }
-    ensures counted { CountsInStore P.failures result }
+    ensures counted { IsServeCounted P.failures from result }
     ensures failed { IsErrOf result ServeFault.Write ↔ IsTrue (writer_failed output.new) }
 {
     lines_keep_settings();
@@ -135,7 +136,7 @@ fn answer_lines<P: Pages + Drop, W: Write, L: Listener>(
     ensures world { OnOk result (run.new.world ≡ world_left run.old.world lines.entry) }
     ensures err { OnErr result (TakesBeginning W.contents output.old output.new (text_from run.old.tells_moves run.old.world lines.entry)) }
     ensures front { IfErr result (λ fault. fault ≢ ServeFault.Write → PrintsFrontFrom (Takes W.contents output.old output.new) (start_in run.old.tells_moves (Ok run.old.world)) lines.entry) }
-    ensures counted { CountsInStore P.failures result }
+    ensures counted { IfErr result (λ fault. fault ≡ ServeFault.Page → HasCountedMore P.failures run.old.world) }
     ensures failed { IsErrOf result ServeFault.Write ↔ IsTrue (writer_failed output.new) }
 {
     let mut text = Vec::new(alloc);
@@ -148,7 +149,8 @@ fn answer_lines<P: Pages + Drop, W: Write, L: Listener>(
     Ok(())
 }
 
-// Answers a line as `push_response` does. A page out of reach is one that a store has counted.
+// Answers a line as `push_response` does. A page out of reach is one that a store has counted, behind those that a ward
+// of the world had met.
 fn push_line<P: Pages + Drop>(
     out: &mut Vec<u8>,
     run: &mut Run<P>,
@@ -160,19 +162,21 @@ fn push_line<P: Pages + Drop>(
     ensures sound { IsSoundWorld any_pseudokey run.new.world }
     ensures telling { run.new.tells_moves ≡ run.old.tells_moves }
     ensures written { IsErrOf result ServeFault.Write → ⊥ }
-    ensures counted { CountsInStore P.failures result }
+    ensures falls { OnOk result (FallsNowhere run.old.world run.new.world) }
+    ensures counted { IfErr result (λ fault. fault ≡ ServeFault.Page → HasCountedMore P.failures run.old.world) }
 {
+    steps_have_outcomes::<AnyKeyer>();
     match push_response(out, run, line) {
         Ok(()) => Ok(()),
         Err(fault) => Err(fault_in(run, fault)),
     }
 }
 
-// Why a run ends at a line that has no response. It asks the stores, one of which has counted a page out of reach.
+// Why a run ends at a line that has no response. It asks the stores, one of which has counted as many pages out of reach
+// as any ward.
 fn fault_in<P: Pages + Drop>(run: &Run<P>, fault: ResponseFault) -> ServeFault
-    requires { fault ≡ ResponseFault.Page → HasCounted run.now.world }
     ensures is { result ≡ fault_of fault }
-    ensures counted { result ≡ ServeFault.Page → (store : P) × (0 < P.failures store) }
+    ensures counted { HaveCounted P.failures run.now.world }
 {
     run.world.most_failures();
     fault.into()

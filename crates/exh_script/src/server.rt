@@ -1,6 +1,6 @@
 ghost use Rattle.std.specs.Prelude.{◌≡◌, ◌≢◌, ◌⊎◌, ◌↔◌, [], MatchBool, IfOk, IfErr, OnErr, IsErrOf, IsTrue, IsFalse};
 ghost use Rattle.std.specs.Io.KnownBytes.{Appends};
-ghost use Rattle.exh_script.specs.Served.{CountsInStore, PrintsLines, PrintsText, PrintsUnread, PrintsWhole, unread_text};
+ghost use Rattle.exh_script.specs.Served.{IsServeCounted, PrintsLines, PrintsText, PrintsUnread, PrintsWhole, unread_text};
 ghost use Rattle.exh_script.specs.OpenedScript.{beginning};
 ghost use Rattle.exh_stream.specs.Output.{AppendsBeginning, SameWriter, Takes, TakesBeginning, held, pending, writer_failed};
 ghost use Rattle.exh_stream.specs.Source.{SameReader, reader_failed, unread};
@@ -21,7 +21,7 @@ use std::io::{Read, Write};
 /// alone. No fault is tried again. The listener is told of lines that are refused, and of requests that aren't answered.
 ///
 /// `Write`: the writer failed or took no bytes, and got a beginning of it. `Memory`: a growth was refused. `Page`: a page
-/// couldn't be reached, which a store has counted. After these two the writer got the text of a beginning of the script's lines, each line whole.
+/// couldn't be reached, and a store has counted more than a ward of the opened file had, of a new one at least one. After these two the writer got the text of a beginning of the script's lines, each line whole.
 pub fn serve_over<P: Pages + Drop, M: StoreMaker<P, AnyKeyer>, R: Read, W: Write, L: Listener>(
     alloc: Global,
     maker: &M,
@@ -38,7 +38,7 @@ pub fn serve_over<P: Pages + Drop, M: StoreMaker<P, AnyKeyer>, R: Read, W: Write
         ⊎ AppendsBeginning (W.contents writer.old) (W.contents writer.new) unread_text) }
     ensures front { IfErr result (λ fault. fault ≢ ServeFault.Write →
         PrintsLines (beginning from) (Appends (W.contents writer.old) (W.contents writer.new)) (R.remaining reader.old)) }
-    ensures counted { CountsInStore P.failures result }
+    ensures counted { IsServeCounted P.failures from result }
 {
     serve_source(
         alloc,
@@ -72,7 +72,7 @@ fn serve_source<P: Pages + Drop, M: StoreMaker<P, AnyKeyer>, R: Read, W: Write, 
         (PrintsText (beginning from) (AppendsBeginning (held W.contents output.old) (held W.contents output.new)) (unread R.remaining source.old))) }
     ensures front { IfErr result (λ fault. fault ≢ ServeFault.Write →
         PrintsLines (beginning from) (Appends (held W.contents output.old) (held W.contents output.new)) (unread R.remaining source.old)) }
-    ensures counted { CountsInStore P.failures result }
+    ensures counted { IsServeCounted P.failures from result }
     ensures failed { IsErrOf result ServeFault.Write ↔ IsTrue (writer_failed output.new) }
 {
     let served = answer_source(alloc, maker, from, source, output, listener);
@@ -102,7 +102,7 @@ fn answer_source<P: Pages + Drop, M: StoreMaker<P, AnyKeyer>, R: Read, W: Write,
     ensures front { IfErr result (λ fault. fault ≢ ServeFault.Write → MatchBool (reader_failed source.new)
         (Takes W.contents output.old output.new [])
         (PrintsLines (beginning from) (Takes W.contents output.old output.new) (unread R.remaining source.old))) }
-    ensures counted { CountsInStore P.failures result }
+    ensures counted { IsServeCounted P.failures from result }
     ensures failed { IsErrOf result ServeFault.Write ↔ IsTrue (writer_failed output.new) }
 {
     match source.read_whole(alloc, SCRIPT_LIMIT) {

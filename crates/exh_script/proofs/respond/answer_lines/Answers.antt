@@ -4,8 +4,9 @@ use Rattle.exh_stream.specs.Output.{Takes}
 use Rattle.exh_stream.specs.OutputLemmas.{OnErr-from, Takes-none}
 use Rattle.exh_script.specs.Text.{line_response, response_text, text_from}
 use Rattle.exh_script.specs.declared.serve_fault.ServeFault.TheVariants.{Write}
+use Rattle.exh_script.proofs.KeptCounts.{falls_by_none, falls_on, more_before}
 use Rattle.exh_script.proofs.Responded.{stopped, line_is, text_of_next, line_out, line_stopped, LeadTo-none, LeadTo-more, text_of_left, text_of_more, world_of_all}
-use Rattle.exh_script.proofs.ServedLemmas.{IfCut-from, IfCut-handed}
+use Rattle.exh_script.proofs.ServedLemmas.{IfCut-from, IfCut-handed, page_handed}
 use Rattle.exh_script.proofs.respond.answer_lines.Goals as goal
 
 pub loop-line-init : goal.loop-line-init
@@ -16,6 +17,7 @@ loop-line-init g c = record {
   answered = [];
   split = sym c.into_iter-line-iterator.ensures.into_iter_gives;
   telling = refl;
+  falls = falls_by_none c.args.run.now.world;
   lead = LeadTo-none c.args.run.now.tells_moves c.args.run.now.world;
   passed = Takes-none g.W.Write.contents c.args.output.now;
 }
@@ -45,6 +47,7 @@ loop-line-preserved g c =
       open_still = search rules;
       sound = c.push_line.ensures.sound;
       telling = c.push_line.ensures.telling ∙ i.telling;
+      falls = falls_on c.args.run.now.world c.loop-line.run.world c.push_line.new.run.world i.falls c.in_ok-push_line.ensures.falls;
       answered = i.answered ++ line ∷ [];
       split = i.split ∙ ap (λ l. i.answered ++ l) c.in-Some.ensures.steps ∙ sym (append_assoc i.answered (line ∷ []) c.next.new.self);
       lead = LeadTo-more tells new c.loop-line.run.world i.answered i.lead line c.push_line.new.run.world c.in_ok-push_line.ensures.world;
@@ -110,3 +113,8 @@ returns-in_err-push-clause-front g c = IfCut-handed c.from_residual-in_err-push.
 
 pub push_line-requires : goal.push_line-requires
 push_line-requires g c = c.loop-line.invariant.sound
+
+pub returns-in_err-push_line-clause-counted : goal.returns-in_err-push_line-clause-counted
+returns-in_err-push_line-clause-counted g c =
+    page_handed c.from_residual.result c.in_err-push_line.field-0.0 c.from_residual.ensures
+    (λ page. more_before g.P.Pages.failures c.args.run.now.world c.loop-line.run.world c.loop-line.invariant.falls (c.in_err-push_line.ensures.counted page))

@@ -1,6 +1,7 @@
 use Rattle.std.proofs.Common.{◌≡◌, List, ℕ, ◌++◌, IsFalse}
 use Rattle.exh_keyer.specs.Pseudokey.{any_pseudokey}
 use Rattle.exh_stream.specs.Output.{SameWriter, Takes, writer_failed}
+use Rattle.exh_script.specs.Served.{FallsNowhere}
 use Rattle.exh_script.specs.Text.{text_from}
 use Rattle.exh_world.specs.Sound.{IsSoundWorld}
 use Rattle.exh_script.proofs.Responded.{LeadTo}
@@ -15,6 +16,7 @@ invariant-loop-line g l = record {
   answered : List (List ℕ);
   telling : l.run.tells_moves ≡ l.fn.run.tells_moves;
   split : l.fn.lines ≡ answered ++ l.line-iterator;
+  falls : FallsNowhere l.fn.run.world l.run.world;
   lead : LeadTo l.fn.run.tells_moves l.fn.run.world l.run.world answered;
   passed : Takes g.W.Write.contents l.fn.output l.output (text_from l.fn.run.tells_moves l.fn.run.world answered);
 }

@@ -1,17 +1,13 @@
-use Rattle.std.proofs.Common.{◌≡◌, Some, Err, slice_get, ap, ◌∙◌, arith}
-use Rattle.exh_keyer.specs.declared.any_keyer.AnyKeyer.{AnyKeyer}
-use Rattle.exh_prefix.specs.PrefixListLemmas.{set_here}
-use Rattle.exh_ward.specs.WardState.{WardState}
-use Rattle.exh_script.specs.Text.{ScriptWorld, CountsPageFault, HasCounted}
+use Rattle.std.proofs.Common.{Err, sym, ap, ◌∙◌, subst}
+use Rattle.exh_script.specs.Served.{FallsNowhere}
+use Rattle.exh_script.proofs.KeptCounts.{line_falls, one_more}
+use Rattle.exh_script.proofs.ServedLemmas.{page_of}
 use Rattle.exh_script.proofs.respond.push_line.Goals as goal
 
--- a ward that counts more page faults has counted one
-counted_one : (old new : ScriptWorld) → CountsPageFault old new → HasCounted new
-counted_one old new met =
-    let counts = met.1 in
-    let ward : WardState AnyKeyer = record counts.before { failures = counts.failures } in
-    let there : slice_get new.wards met.0 ≡ Some ward = ap (λ (w : ScriptWorld). slice_get w.wards met.0) counts.after ∙ set_here old.wards met.0 counts.before ward counts.found in
-    (met.0, ward, there, omega (arith, counts.more))
+pub returns-in-Ok-clause-falls : goal.returns-in-Ok-clause-falls
+returns-in-Ok-clause-falls g c = subst (FallsNowhere c.args.run.now.world) (sym c.in-Ok.ensures.world) (line_falls c.steps_have_outcomes.ensures c.args.run.now.world c.requires c.args.line.now)
 
-pub fault_in-requires : goal.fault_in-requires
-fault_in-requires g c page = counted_one c.args.run.now.world c.push_response.new.run.world (c.in-Err.ensures.counted (ap Err page))
+pub returns-in-Err-clause-counted : goal.returns-in-Err-clause-counted
+returns-in-Err-clause-counted g c = λ page.
+    let reached = page_of c.in-Err.fault (sym c.fault_in.ensures.is ∙ page) in
+    one_more g.P.Pages.failures c.args.run.now.world c.push_response.new.run.world (c.in-Err.ensures.counted (ap Err reached)) c.fault_in.ensures.counted

@@ -9,7 +9,8 @@ use Rattle.exh_line.specs.declared.refusal.Refusal.{Refusal}
 use Rattle.exh_script.specs.Left.{file_left, left_after}
 use Rattle.exh_script.specs.OpenedScript.{beginning}
 use Rattle.exh_script.specs.Text.{ScriptWorld, start_in, text_after}
-use Rattle.exh_script.proofs.ServedLemmas.{IfCut-from, IfCut-handed, IfCut-map}
+use Rattle.exh_script.proofs.KeptCounts.{counted_from}
+use Rattle.exh_script.proofs.ServedLemmas.{IfCut-from, IfCut-handed, IfCut-map, page_handed}
 use Rattle.exh_script.proofs.StartLemmas.{front_in}
 use Rattle.exh_script.proofs.respond.serve_file.Goals as goal
 
@@ -77,3 +78,9 @@ returns-in-Err-clause-err g c =
 
 pub returns-in-Err-clause-front : goal.returns-in-Err-clause-front
 returns-in-Err-clause-front g c = IfCut-map c.refuse.result inl c.refuse.ensures.front
+
+pub returns-in_err-answer_lines-in-Ok-clause-counted : goal.returns-in_err-answer_lines-in-Ok-clause-counted
+returns-in_err-answer_lines-in-Ok-clause-counted g c =
+    let begun : Ok c.in-Ok.world ≡ beginning c.args.from c.args.settings.now.file = sym c.in-Ok.is ∙ c.in_ok-world.ensures.begun in
+    page_handed c.from_residual-in_err-answer_lines-in-Ok.result c.in_err-answer_lines-in-Ok.field-0.0 c.from_residual-in_err-answer_lines-in-Ok.ensures
+    (λ page. counted_from g.P.Pages.failures c.args.from c.args.settings.now.file c.in-Ok.world begun (c.in_err-answer_lines-in-Ok.ensures.counted page))
