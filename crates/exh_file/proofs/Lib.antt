@@ -6,6 +6,7 @@ pub mod Left
 -- of the places of a file of version 3
 pub mod Places
 pub mod PlacedLegal
+pub mod Counted
 pub mod Counts
 pub mod FewPlaces
 pub mod StillPlaced

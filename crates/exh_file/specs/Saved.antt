@@ -80,3 +80,7 @@ pub record IsLeft (old new : OpenedState) : Type 0 where
 -- how often a page of any ward couldn't be reached
 abbrev pub failures_in : List (WardState AnyKeyer) → ℕ
 failures_in wards = sum_by (λ ward. ward.failures) wards
+
+-- a store of these failures has counted more than a ward of these had
+abbrev pub HasCountedOf : {P : Type 0} → (P → ℕ) → List (WardState AnyKeyer) → Type 0
+HasCountedOf {P} failures wards = (store : P) × (number : ℕ) × (ward : WardState AnyKeyer) × (slice_get wards number ≡ Some ward) × (ward.failures < failures store)

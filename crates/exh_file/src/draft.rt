@@ -7,7 +7,7 @@ ghost use Rattle.exh_file.specs.Draft.{IsAnew, IsDraftLeft, IsDraftSaving, IsDra
 ghost use Rattle.exh_file.specs.Opened.{AreWardsOf, in_file};
 ghost use Rattle.exh_file.specs.Placing.{HavePages, IsPlacedSaving, IsPlacingOf, IsWardOrder, ordered_pages, placed_file};
 ghost use Rattle.exh_file_faults.specs.SaveFault.{CountsSaveFailures};
-ghost use Rattle.exh_file.specs.Saved.{AreSound, AreUnchanged, failures_in};
+ghost use Rattle.exh_file.specs.Saved.{AreSound, AreUnchanged, HasCountedOf, failures_in};
 
 use crate::placed_saving::write_placed;
 use crate::placing::{Form, Placing, Stamps};
@@ -59,10 +59,11 @@ impl<P: Pages + Drop> Draft<P> {
     /// Of wards that are written as a file of version 3 that is made anew, with these stamps: the wards' pages 0, and behind
     /// them the others, ward by ward. It takes memory for a cell and some bytes a page.
     ///
-    /// `Page`: a page is out of reach. `Memory`: a growth was refused. Then the wards are gone.
+    /// `Page`: a page is out of reach, which a store has counted. `Memory`: a growth was refused. Then the wards are gone.
     pub fn anew(alloc: Global, opened: Opened<P>, stamps: Stamps) -> Result<Draft<P>, DraftFault>
         ensures ok { IfOk result (IsAnew opened stamps) }
         ensures places { IfErr result (λ fault. fault ≢ DraftFault.Places) }
+        ensures counted { IfErr result (λ fault. fault ≡ DraftFault.Page → HasCountedOf P.failures opened.wards) }
     {
         let settings = opened.settings();
         let wards = opened.into_wards();
@@ -74,8 +75,8 @@ impl<P: Pages + Drop> Draft<P> {
     /// where they had these low bounds: those in their places, and behind them the others, ward by ward. It takes memory
     /// for a cell and some bytes a page.
     ///
-    /// `Places`: the wards haven't these pages. `Page`: a page is out of reach. `Memory`: a growth was refused. Then the
-    /// wards are gone.
+    /// `Places`: the wards haven't these pages. `Page`: a page is out of reach, which a store has counted. `Memory`: a
+    /// growth was refused. Then the wards are gone.
     pub fn grown(
         alloc: Global,
         opened: Opened<P>,
@@ -84,6 +85,7 @@ impl<P: Pages + Drop> Draft<P> {
     ) -> Result<Draft<P>, DraftFault>
         ensures ok { IfOk result (IsGrown opened lows.now stamps) }
         ensures places { IfErr result (λ fault. fault ≡ DraftFault.Places → ¬ HavePages opened.ward_bits opened.wards lows.now) }
+        ensures counted { IfErr result (λ fault. fault ≡ DraftFault.Page → HasCountedOf P.failures opened.wards) }
     {
         let settings = opened.settings();
         let wards = opened.into_wards();
@@ -191,6 +193,7 @@ fn drafted<P: Pages + Drop>(
     requires order { IsWardOrder wards.items order.items }
     ensures ok { IfOk result (IsDraftedSo (in_file settings wards.items) order.items lows.now stamps) }
     ensures places { IfErr result (λ fault. fault ≡ DraftFault.Places → take (length lows.now) (lows_of (ordered_pages wards.items order.items)) ≢ lows.now) }
+    ensures counted { IfErr result (λ fault. fault ≡ DraftFault.Page → HasCountedOf P.failures wards.items) }
 {
     match placing_in(alloc, settings, &mut wards, order, lows, stamps)? {
         Some(placing) => Ok(Draft {

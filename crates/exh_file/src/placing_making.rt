@@ -7,7 +7,7 @@ ghost use Rattle.exh_prefix.specs.declared.prefix.TheConstants.{WARD_BITS_LIMIT}
 ghost use Rattle.exh_cells.specs.PlacedFile.{lows_of};
 ghost use Rattle.exh_file.specs.Opened.{AreWardsOf, in_file};
 ghost use Rattle.exh_file.specs.Placing.{HavePages, IsGrownOrder, IsPlacedSo, IsWardOrder, ordered_pages};
-ghost use Rattle.exh_file.specs.Saved.{AreSound, counts_in, pages_of_all};
+ghost use Rattle.exh_file.specs.Saved.{AreSound, HasCountedOf, counts_in, pages_of_all};
 
 use crate::SaveFault;
 use crate::header::header_of;
@@ -45,6 +45,7 @@ pub(crate) fn placing_in<P: Pages + Drop>(
     ensures begins { IfOk result (λ found. IfSome found (λ _. take (length old.now) (lows_of (ordered_pages wards.old order.items)) ≡ old.now)) }
     ensures none { IfOk result (λ found. IfNone found (take (length old.now) (lows_of (ordered_pages wards.old order.items)) ≢ old.now)) }
     ensures fault { IfErr result (λ fault. fault ≢ SaveFault.Write) }
+    ensures counted { IfErr result (λ fault. fault ≡ SaveFault.Page → HasCountedOf P.failures wards.old) }
     ensures same { IfOk result (λ _. wards.new ≡ wards.old) }
 {
     fitting_tables_begin_wards();

@@ -5,7 +5,7 @@ ghost use Rattle.exh_stores.specs.PageStore.{IfPage};
 ghost use Rattle.exh_cells.specs.PlacedFile.{lows_of};
 ghost use Rattle.exh_placing.specs.WardFile.{ArePagesOf};
 ghost use Rattle.exh_file.specs.Placing.{ordered_pages, own_pages};
-ghost use Rattle.exh_file.specs.Saved.{pages_of_all};
+ghost use Rattle.exh_file.specs.Saved.{HasCountedOf, pages_of_all};
 
 use crate::SaveFault;
 use exh_format::push_item;
@@ -27,6 +27,7 @@ pub(crate) fn lows_in<P: Pages + Drop>(
     requires { ArePagesOf (pages_of_all wards.old) order.now (ordered_pages wards.old order.now) }
     ensures lows { IfOk result (λ lows. lows.items ≡ lows_of (ordered_pages wards.old order.now)) }
     ensures fault { IfErr result (λ fault. fault ≢ SaveFault.Write) }
+    ensures counted { IfErr result (λ fault. fault ≡ SaveFault.Page → HasCountedOf P.failures wards.old) }
     ensures same { IfOk result (λ _. wards.new ≡ wards.old) }
 {
     let mut lows = Vec::with_capacity(alloc, order.len())?;
@@ -43,6 +44,7 @@ fn low_at<P: Pages + Drop>(wards: &mut [Ward<P, AnyKeyer>], at: PageAt) -> Resul
     requires page { at.number < length (own_pages wards.old at.ward) }
     ensures low { IfOk result (λ low. IfPage (own_pages wards.old at.ward) at.number (λ page. low ≡ low_bound page)) }
     ensures fault { IfErr result (λ fault. fault ≢ SaveFault.Write) }
+    ensures counted { IfErr result (λ fault. fault ≡ SaveFault.Page → HasCountedOf P.failures wards.old) }
     ensures same { IfOk result (λ _. wards.new ≡ wards.old) }
 {
     low_of(&mut wards[at.ward as usize], at.number)
@@ -53,10 +55,15 @@ fn low_of<P: Pages + Drop>(ward: &mut Ward<P, AnyKeyer>, number: PageNo) -> Resu
     requires { number < length ward.old.pages }
     ensures low { IfOk result (λ low. IfPage ward.old.pages number (λ page. low ≡ low_bound page)) }
     ensures fault { IfErr result (λ fault. fault ≢ SaveFault.Write) }
+    ensures counted { IfErr result (λ fault. fault ≡ SaveFault.Page → (store : P) × (ward.old.failures < P.failures store)) }
     ensures same { IfOk result (λ _. ward.new ≡ ward.old) }
 {
     match ward.head(number) {
         Ok(head) => Ok(head.low()),
-        Err(fault) => Err(SaveFault::of_ward(fault)),
+        Err(fault) => {
+            // By whose contract a store has counted as many.
+            ward.failures();
+            Err(SaveFault::of_ward(fault))
+        }
     }
 }

@@ -4,7 +4,10 @@ use Rattle.exh_cells.specs.PlacedFile.{lows_of}
 use Rattle.exh_ward.specs.WardState.{WardState}
 use Rattle.exh_file.specs.Opened.{AreWardsOf, in_file}
 use Rattle.exh_file.specs.Placing.{IsWardOrder, ordered_pages}
-use Rattle.exh_file.specs.Saved.{AreSound}
+use Rattle.exh_file_faults.specs.DraftFault.{draft_fault_of}
+use Rattle.exh_file_faults.specs.declared.draft_fault.DraftFault.TheVariants.{Page}
+use Rattle.exh_file.specs.Saved.{AreSound, HasCountedOf}
+use Rattle.exh_file.proofs.Counted.{handed_on, reached}
 use Rattle.exh_file.proofs.Left.{put_back}
 use Rattle.exh_file.proofs.draft.drafted.Goals as goal
 
@@ -38,3 +41,9 @@ returns-in-Some-clause-ok g c =
       stamps_are = placed.stamps_are;
       begins = subst (λ (wards : List (WardState AnyKeyer)). take (length c.args.lows.now) (lows_of (ordered_pages wards c.args.order.items)) ≡ c.args.lows.now) c.deref_mut.ensures.value begins;
     }
+
+pub returns-in_err-placing-clause-counted : goal.returns-in_err-placing-clause-counted
+returns-in_err-placing-clause-counted g c =
+    handed_on (λ fault. fault ≡ draft_fault_of c.in_err-placing.field-0.0) (λ fault. fault ≡ Page → HasCountedOf g.P.Pages.failures c.args.wards.items)
+    (λ fault same page. subst (HasCountedOf g.P.Pages.failures) c.deref_mut.ensures.value (c.in_err-placing.ensures.counted (reached c.in_err-placing.field-0.0 (sym same ∙ page) c.in_err-placing.ensures.fault)))
+    c.from_residual.result c.from_residual.ensures

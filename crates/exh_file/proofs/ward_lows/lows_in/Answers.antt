@@ -9,6 +9,9 @@ use Rattle.exh_cells.specs.PlacedFile.{lows_of}
 use Rattle.exh_placing.specs.declared.page_at.PageAt.{PageAt}
 use Rattle.exh_ward.specs.WardState.{WardState}
 use Rattle.exh_file.specs.Placing.{ordered_pages, own_pages}
+use Rattle.exh_file_faults.specs.declared.save_fault.SaveFault.TheVariants.{Page as OutOfReach}
+use Rattle.exh_file.specs.Saved.{HasCountedOf}
+use Rattle.exh_file.proofs.Counted.{handed_on}
 use Rattle.exh_file.proofs.Lists.{next_is}
 use Rattle.exh_file.proofs.Places.{own_page, page_there, page_within, ward_within}
 use Rattle.exh_file.proofs.ward_lows.lows_in.Goals as goal
@@ -58,3 +61,9 @@ pub returns-clause-lows : goal.returns-clause-lows
 returns-clause-lows g c =
     let pages = ordered_pages c.args.wards.now c.args.order.now in
     c.loop-place.invariant.lows ∙ take_all c.loop-place.place (lows_of pages) (omega (arith, c.loop-place-test.false, length-map pages low_bound, c.requires.count))
+
+pub returns-in_err-low-clause-counted : goal.returns-in_err-low-clause-counted
+returns-in_err-low-clause-counted g c =
+    handed_on (λ fault. fault ≡ c.in_err-low.field-0.0) (λ fault. fault ≡ OutOfReach → HasCountedOf g.P.Pages.failures c.args.wards.now)
+    (λ fault same page. subst (HasCountedOf g.P.Pages.failures) c.loop-place.invariant.wards (c.in_err-low.ensures.counted (sym same ∙ page)))
+    c.from_residual-in_err-low.result c.from_residual-in_err-low.ensures
