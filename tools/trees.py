@@ -32,11 +32,15 @@ def listed(root):
     return lines, {name: [it for it in names if it in lines] for name, names in below.items()}
 
 
-def all_below(name, below):
-    found = []
-    for it in below[name]:
-        found += [each for each in [*all_below(it, below), it] if each not in found]
-    return found
+def all_below(name, below, known=None):
+    """Returns the crates below one, each behind those that it stands on. Each crate is looked at once."""
+    known = {} if known is None else known
+    if name not in known:
+        found = {}
+        for it in below[name]:
+            found |= dict.fromkeys([*all_below(it, below, known), it])
+        known[name] = list(found)
+    return known[name]
 
 
 def size_of(folder):

@@ -4,6 +4,8 @@ import os
 import shutil
 
 from .cut_off import LATER, LOG, laid
+from .foreign_logs import NO_LOG
+from .foreign_logs import TRAPS as FOREIGN
 from .in_place import FIRST_LINE, MORE, PAIRS, PLACE, calling, key_of
 from .page_file import BLOCK, sealed
 from .page_reader import Live
@@ -116,7 +118,7 @@ def folder_for_a_log(program, _, alone):
     with room_with(program, alone) as room:
         room.at(LOG).mkdir()
         content = room.at(PLACE).read_bytes()
-        room.wants(["put", PLACE, "k", "v"], 1, b"", REFUSED)
+        room.wants(["put", PLACE, "k", "v"], 1, b"", NO_LOG)
         if room.at(PLACE).read_bytes() != content:
             raise Wrong("put: it changed the file")
         room.at(LOG).rmdir()
@@ -128,7 +130,7 @@ def pipe_for_a_log(program, _, alone):
     with room_with(program, alone) as room:
         os.mkfifo(room.at(LOG))
         content = room.at(PLACE).read_bytes()
-        room.wants(["put", PLACE, "k", "v"], 1, b"", REFUSED)
+        room.wants(["put", PLACE, "k", "v"], 1, b"", NO_LOG)
         room.at(LOG).unlink()
         if room.at(PLACE).read_bytes() != content:
             raise Wrong("put: it changed the file")
@@ -297,7 +299,7 @@ def full_disk(program, _, alone):
 
 def full_disk_behind_the_log(program, _, alone):
     """A put whose log is written, and whose blocks find no room in the file, is saved and says so. Until there is room each
-    reading says why it isn't read, and changes nothing; then the next finds the put done."""
+    reading and each change says why it isn't done, and changes nothing; then the next finds the put done."""
     with small_room(program, alone) as room:
         filler, pairs = room.at("filler"), {**PAIRS}
         fill(filler, FEW)
@@ -307,7 +309,8 @@ def full_disk_behind_the_log(program, _, alone):
                 break
         if b"stands in the log" not in done.stderr:
             raise Wrong(f"status {done.returncode}: {done.stdout} {done.stderr[:200]}")
-        for words, text in ((calling("get", key), b""), (["check", PLACE], b"refused 41\n")):
+        tries = [(words, b"") for words in (calling("get", key), calling("put", key, "w"), calling("del", key_of(1)))]
+        for words, text in (*tries, (["check", PLACE], b"refused 41\n")):
             room.is_let_be(words, "can't be copied into it: No space left on device (os error 28) (refused 41)", text=text)
         free(filler)
         room.has(pairs)
@@ -317,6 +320,7 @@ def full_disk_behind_the_log(program, _, alone):
 TRAPS = {
     it.__name__.replace("_", " "): it
     for it in (
+        *FOREIGN,
         log_of_another_file,
         log_of_a_file_that_is_gone,
         log_of_a_copy,

@@ -7,19 +7,28 @@
 //! - `plain`: `[storm CALLERS CALLS]`, the same over plain pages.
 //!
 //! Without words the runs of each list of the first kind are made, at their usual length.
+//!
+//! Takes steps of directories and wards that no script can ask, beside what was worked out by hand, and prints for each
+//! kind of run how many steps it took, and how many of them differed.
+//!
+//! Each growth that is refused is asked for once more, and a refused step is made once more: so it prints the same where
+//! memory is refused once, wherever that is.
 #![tactic(auto)]
-
-mod stores;
 
 use crate::stores::{run_images, run_plain};
 use beside_live::{play_live, play_threads};
-use beside_rows::run_rows;
 use beside_worlds::{run_lines, run_refusals};
-use exh_fixtures::{Named, Status, named, own_words};
+use exh_fixtures::{Difference, Named, Run, RunKind, Status, named, own_words, run_kinds};
 use std::process::ExitCode;
 use std::sync::Wait;
 use std::thread::Threads;
 use std::time::Clock;
+
+mod joins;
+mod journals;
+mod plain_ward;
+mod routes;
+mod stores;
 
 /// A list of runs.
 #[derive(Clone, Copy)]
@@ -116,4 +125,41 @@ fn run_list<R: Threads + Wait + Clock + Print + Eprint + AllocGlobal + Sync>(
         RunList::Live => play_live(rt, words),
         RunList::Threads => play_threads(rt, words),
     }
+}
+
+#[derive(Clone, Copy)]
+enum Kind {
+    /// Directories that no world has.
+    Joins,
+    /// How far pages are from answers.
+    Routes,
+    /// Journals, strays and refusals.
+    Journals,
+}
+
+const KINDS: [Kind; 3] = [Kind::Joins, Kind::Routes, Kind::Journals];
+
+impl Named for Kind {
+    fn name(self) -> &'static str {
+        match self {
+            Kind::Joins => "joins",
+            Kind::Routes => "routes",
+            Kind::Journals => "journals",
+        }
+    }
+}
+
+impl RunKind for Kind {
+    fn take_steps(self, run: &mut Run) -> Result<(), Difference> {
+        match self {
+            Kind::Joins => joins::run(run),
+            Kind::Routes => routes::run(run),
+            Kind::Journals => journals::run(run),
+        }
+    }
+}
+
+/// Makes the runs that words ask for, and prints what each came to.
+pub fn run_rows(rt: &(impl Print + Eprint + AllocGlobal), words: &[String]) -> Status {
+    run_kinds(rt, words, &KINDS)
 }

@@ -2,15 +2,15 @@
 //! the notes on standard error too; or runs a storm over such stores, and prints what `exhash storm` does. They are
 //! stores of images, each behind a cache of as many decoded pages as a word says, or stores of plain pages.
 ghost use Rattle.std.specs.Prelude.{IfSome};
-ghost use Rattle.exh_settings.specs.StormConfig.{IsStormConfig};
+ghost use Rattle.exh_page.specs.StormConfig.{IsStormConfig};
 
+use beside_live::{NoWatch, OpenGate, storm_over};
+use beside_worlds::{ServeFault, serve_over};
 use exh_frames::{FramedMaker, FramedPages, Pages, PlainMaker, PlainPages, StoreMaker};
 use exh_keyer::{AnyKeyer, ShaKeyer};
-use exh_live::{NoWatch, OpenGate, storm_over};
-use exh_notes::{Expect, Notes};
-use exh_script::{ServeFault, serve_over};
-use exh_settings::{CALLERS_LIMIT, CALLS_LIMIT, StormConfig};
+use exh_page::{CALLERS_LIMIT, CALLS_LIMIT, StormConfig};
 use exh_stream::Output;
+use exh_text::{Expect, Notes};
 use std::io;
 use std::process::ExitCode;
 use std::sync::Wait;

@@ -1,6 +1,6 @@
 //! Calls that are asked one after another.
 
-use exh_callers::{Caller, File, is_told};
+use exh_fakes::{Caller, File, is_told};
 use exh_fixtures::{Difference, Run, Said, told_reply};
 use exh_frames::Pages;
 use exh_live::{Identity, OpenGate};

@@ -2,12 +2,12 @@
 //! lost, and each reply is the map machine's, told the calls in the journals' order.
 ghost use Rattle.std.specs.Prelude.{◌≡◌};
 ghost use Rattle.exh_keyer.specs.Pseudokey.{plain_pseudokey};
-ghost use Rattle.exh_live_file.specs.declared.ledgers.TheConstants.{ANSWER_PARTS, ENTRY_PARTS};
+ghost use Rattle.exh_live.specs.declared.ledgers.TheConstants.{ANSWER_PARTS, ENTRY_PARTS};
 
-use exh_callers::{
+use exh_copy::Start;
+use exh_fakes::{
     CAP, Caller, PlainFile, PlainWard, Reader, ask, close_settled, new_file, next_caller,
 };
-use exh_copy::Start;
 use exh_fixtures::{Asked, Dice, Difference, Part, Run, again, same, told_reply};
 use exh_keyer::PlainKeyer;
 use exh_live::{ANSWER_PARTS, ENTRY_PARTS, Identity, OpenGate, Seat};

@@ -1,10 +1,10 @@
 //! Closing with a seat missing and with all, wards with the diaries of another file, and all seats of one.
 ghost use Rattle.std.specs.Prelude.{◌≡◌};
 ghost use Rattle.exh_keyer.specs.Pseudokey.{plain_pseudokey};
-ghost use Rattle.exh_live_file.specs.declared.ledgers.TheConstants.{ANSWER_PARTS, ENTRY_PARTS};
+ghost use Rattle.exh_live.specs.declared.ledgers.TheConstants.{ANSWER_PARTS, ENTRY_PARTS};
 
-use exh_callers::{CAP, PlainFile, Reader, close, is_told, new_file, next_caller, settled};
 use exh_copy::Start;
+use exh_fakes::{CAP, PlainFile, Reader, close, is_told, new_file, next_caller, settled};
 use exh_fixtures::{Asked, Difference, Part, Run, same};
 use exh_frames::PlainPages;
 use exh_keyer::PlainKeyer;

@@ -1,9 +1,9 @@
 //! The counter: two callers count to 100, each by gets of a number and swaps of it for the next one.
 ghost use Rattle.std.specs.Prelude.{◌≡◌};
 ghost use Rattle.exh_keyer.specs.Pseudokey.{plain_pseudokey};
-ghost use Rattle.exh_live_file.specs.declared.ledgers.TheConstants.{ANSWER_PARTS, ENTRY_PARTS};
+ghost use Rattle.exh_live.specs.declared.ledgers.TheConstants.{ANSWER_PARTS, ENTRY_PARTS};
 
-use exh_callers::{
+use exh_fakes::{
     CAP, Caller, Conductor, Count, PlainFile, PlainWard, Reader, Rule, Then, Who, ask,
     close_settled, is_told, new_file, next_caller,
 };

@@ -4,15 +4,15 @@
 ghost use Rattle.std.specs.Prelude.{◌≡◌, ◌^◌, ℕ, length, IfOk};
 ghost use Rattle.std.specs.FinMap as map;
 ghost use Rattle.exh_keyer.specs.Pseudokey.{plain_pseudokey};
-ghost use Rattle.exh_live_file.specs.LiveFile.{IsNewWardOf};
-ghost use Rattle.exh_live_file.specs.declared.ledgers.TheConstants.{ANSWER_PARTS, ENTRY_PARTS};
+ghost use Rattle.exh_live.specs.LiveFile.{IsNewWardOf};
+ghost use Rattle.exh_live.specs.declared.ledgers.TheConstants.{ANSWER_PARTS, ENTRY_PARTS};
 
-use exh_callers::lists::{FAULT_COUNT, FAULTS};
-use exh_callers::{
+use exh_copy::{NewCopyFault, Start, new_copy};
+use exh_fakes::lists::{FAULT_COUNT, FAULTS};
+use exh_fakes::{
     CAP, Caller, File, LiveStep, Reader, Writer, close, is_carried, is_told, keep, next_caller,
     one_ward_file, settled,
 };
-use exh_copy::{NewCopyFault, Start, new_copy};
 use exh_fixtures::{Difference, Part, Run, again, first_store, same};
 use exh_frames::{FailingPages, PlainPages};
 use exh_keyer::PlainKeyer;

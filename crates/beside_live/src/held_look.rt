@@ -2,10 +2,10 @@
 //! splits the page that it has looked up.
 ghost use Rattle.std.specs.Prelude.{◌≡◌};
 ghost use Rattle.exh_keyer.specs.Pseudokey.{plain_pseudokey};
-ghost use Rattle.exh_live_file.specs.declared.ledgers.TheConstants.{ANSWER_PARTS, ENTRY_PARTS};
+ghost use Rattle.exh_live.specs.declared.ledgers.TheConstants.{ANSWER_PARTS, ENTRY_PARTS};
 
 use crate::ask::ask_all;
-use exh_callers::{
+use exh_fakes::{
     CAP, Caller, Conductor, Count, PlainFile, Reader, Rule, Then, Who, close_settled, is_told,
     new_file, next_caller,
 };

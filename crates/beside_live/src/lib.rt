@@ -1,6 +1,7 @@
 //! Stories of live files beside what was worked out by hand: of callers on one thread and on many, and of storms.
 #![tactic(auto)]
 
+pub use exh_live::{NoWatch, OpenGate, storm_over};
 pub use live_stories::play_live;
 pub use thread_stories::play_threads;
 

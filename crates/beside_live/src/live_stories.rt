@@ -8,13 +8,13 @@ ghost use Rattle.std.specs.Prelude.{◌≡◌, ◌≤◌};
 ghost use Rattle.std.specs.FinMap as map;
 ghost use Rattle.exh_keyer.specs.Pseudokey.{plain_pseudokey};
 ghost use Rattle.exh_copy.specs.Additions.{AreOf};
-ghost use Rattle.exh_live_file.specs.declared.ledgers.TheConstants.{ANSWER_PARTS, ENTRY_PARTS};
+ghost use Rattle.exh_live.specs.declared.ledgers.TheConstants.{ANSWER_PARTS, ENTRY_PARTS};
 ghost use Rattle.exh_prefix.specs.declared.prefix.TheConstants.{WARD_BITS_LIMIT};
 
 use crate::callers::CALLERS;
 use crate::one_caller::OneCaller;
-use exh_callers::{Reader, Writer};
 use exh_copy::{NewCopyFault, Start, new_copy};
+use exh_fakes::{Reader, Writer};
 use exh_fixtures::{Difference, Job, Named, Part, Run, Status, Tally, again, has_told_difference};
 use exh_live::{ANSWER_PARTS, ENTRY_PARTS, Identity};
 use exh_table::Table;

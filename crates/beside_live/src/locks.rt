@@ -1,9 +1,9 @@
 //! A lock for each ward: a caller is answered in ward 1 while the lock of ward 0 is held.
 ghost use Rattle.std.specs.Prelude.{◌≡◌};
 ghost use Rattle.exh_keyer.specs.Pseudokey.{plain_pseudokey};
-ghost use Rattle.exh_live_file.specs.declared.ledgers.TheConstants.{ANSWER_PARTS, ENTRY_PARTS};
+ghost use Rattle.exh_live.specs.declared.ledgers.TheConstants.{ANSWER_PARTS, ENTRY_PARTS};
 
-use exh_callers::{
+use exh_fakes::{
     Caller, Conductor, IS_LATE, IS_READ, Look, MAY_GO, Reader, WatchedFile, WatchedMaker, is_told,
     next_caller, watched_file,
 };

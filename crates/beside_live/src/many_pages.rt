@@ -1,9 +1,9 @@
 //! Many pages: each is called and worn down, while the gate counts turns and the store looks at pages.
 ghost use Rattle.std.specs.Prelude.{◌≡◌};
 ghost use Rattle.exh_keyer.specs.Pseudokey.{plain_pseudokey};
-ghost use Rattle.exh_live_file.specs.declared.ledgers.TheConstants.{ANSWER_PARTS, ENTRY_PARTS};
+ghost use Rattle.exh_live.specs.declared.ledgers.TheConstants.{ANSWER_PARTS, ENTRY_PARTS};
 
-use exh_callers::{
+use exh_fakes::{
     CAME_BETWEEN, Caller, Conductor, Count, LOOKS, Look, Reader, Rule, Then, WatchedFile,
     WatchedMaker, Who, is_kept, is_told, next_caller, watched_file,
 };

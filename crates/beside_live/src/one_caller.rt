@@ -3,20 +3,20 @@ ghost use Rattle.std.specs.Prelude.{◌≡◌, ◌≤◌, IfOk, IfSome};
 ghost use Rattle.std.specs.FinMap as map;
 ghost use Rattle.exh_keyer.specs.Pseudokey.{plain_pseudokey};
 ghost use Rattle.exh_copy.specs.Additions.{AreOf};
-ghost use Rattle.exh_live_file.specs.declared.ledgers.TheConstants.{ANSWER_PARTS, ENTRY_PARTS};
+ghost use Rattle.exh_live.specs.declared.ledgers.TheConstants.{ANSWER_PARTS, ENTRY_PARTS};
 ghost use Rattle.exh_prefix.specs.declared.prefix.TheConstants.{WARD_BITS_LIMIT};
 
 use crate::written_ward::written_ward;
-use exh_callers::lists::{
+use exh_copy::Start;
+use exh_fakes::lists::{
     COURIER, EVEN_HALF, FAR_BEHIND, FOUR_WARDS, KEEPER, LATE_COURIER, LONG, MERGED_COURIER,
     ODD_HALF, OPENED_COURIER, REFUSED_COURIER, SEVEN_SPLITS, THREE_KEYS, THREE_KEYS_EACH,
     TOLD_COPY, WORN_KEEPER, WRONG_HINT,
 };
-use exh_callers::{
+use exh_fakes::{
     LiveStep, PlainFile, Reader, Writer, close_settled, new_file, next_caller, one_ward_file,
     take_steps,
 };
-use exh_copy::Start;
 use exh_fixtures::{Difference, Run, again, prefix};
 use exh_keyer::PlainKeyer;
 use exh_live::{ANSWER_PARTS, ENTRY_PARTS, Identity};

@@ -2,10 +2,10 @@
 //! fills them again.
 ghost use Rattle.std.specs.Prelude.{◌≡◌};
 ghost use Rattle.exh_keyer.specs.Pseudokey.{plain_pseudokey};
-ghost use Rattle.exh_live_file.specs.declared.ledgers.TheConstants.{ANSWER_PARTS, ENTRY_PARTS};
+ghost use Rattle.exh_live.specs.declared.ledgers.TheConstants.{ANSWER_PARTS, ENTRY_PARTS};
 
 use crate::ask::ask_all;
-use exh_callers::{
+use exh_fakes::{
     Caller, Conductor, Count, HAS_MERGED, IS_OVER, Look, Reader, WatchedFile, WatchedMaker,
     WatchedPages, close_settled, is_kept, keep, next_caller, watched_file,
 };

@@ -1,11 +1,11 @@
 //! Storms under gates, and what each comes to.
-ghost use Rattle.exh_settings.specs.StormConfig.{IsStormConfig};
+ghost use Rattle.exh_page.specs.StormConfig.{IsStormConfig};
 
-use exh_callers::{Conductor, Count, Rule, Then, Who};
+use exh_fakes::{Conductor, Count, Rule, Then, Who};
 use exh_fixtures::{Part, Run, again, same};
 use exh_frames::PlainMaker;
 use exh_live::{StormFault, storm_over};
-use exh_settings::StormConfig;
+use exh_page::StormConfig;
 use std::alloc::Global;
 use std::sync::Wait;
 use std::thread::Threads;

@@ -3,11 +3,11 @@
 
 ghost use Rattle.std.specs.Prelude.{◌≡◌};
 ghost use Rattle.exh_keyer.specs.Pseudokey.{plain_pseudokey};
-ghost use Rattle.exh_live_file.specs.declared.ledgers.TheConstants.{ANSWER_PARTS, ENTRY_PARTS};
+ghost use Rattle.exh_live.specs.declared.ledgers.TheConstants.{ANSWER_PARTS, ENTRY_PARTS};
 
 use crate::story::{STORIES, Story};
-use exh_callers::{Conductor, Reader};
 use exh_copy::{NewCopyFault, new_copy};
+use exh_fakes::{Conductor, Reader};
 use exh_fixtures::{Difference, Job, Named, Part, Run, Status, Tally, again, has_told_difference};
 use exh_frames::{FramedMaker, FramedPages, PlainMaker, PlainPages};
 use exh_keyer::PlainKeyer;

@@ -1,8 +1,8 @@
 //! Wards as of a file of keyer plain that was written before.
 ghost use Rattle.std.specs.Prelude.{◌≡◌, ◌≤◌, ◌%◌, IfOk};
-ghost use Rattle.exh_live_file.specs.LiveFile.{IsNewWardOf};
+ghost use Rattle.exh_live.specs.LiveFile.{IsNewWardOf};
 
-use exh_callers::PlainWard;
+use exh_fakes::PlainWard;
 use exh_fixtures::{Difference, Part, again, opened_ward, refused};
 use exh_frames::PlainPages;
 use exh_join::Join;

@@ -9,7 +9,7 @@ use Rattle.exh_ward.specs.WardState.{WardState}
 use Rattle.exh_world.specs.NewWorld.{AreWardsFor, settings_of}
 use Rattle.exh_world.specs.Sound.{IsSoundWorld}
 use Rattle.exh_world.specs.World.{WorldState}
-use Rattle.exh_settings.specs.declared.config.Config.{Config}
+use Rattle.exh_page.specs.declared.config.Config.{Config}
 use Rattle.beside_worlds.specs.Anew.{AreItsWards, HasSettings}
 
 pub line_keeps : LinesKeepSettings → (old : ScriptWorld) → IsSoundWorld any_pseudokey old → (line : List ℕ) (new : ScriptWorld)

@@ -2,6 +2,7 @@
 //! and calls that are refused on purpose.
 #![tactic(auto)]
 
+pub use exh_script::{ServeFault, serve_over};
 pub use line_runs::run_lines;
 pub use refusal_runs::run_refusals;
 

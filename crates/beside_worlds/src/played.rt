@@ -5,7 +5,7 @@ use crate::lists::List;
 use exh_fixtures::{Difference, Part, again, same};
 use exh_frames::{Pages, PlainPages};
 use exh_keyer::AnyKeyer;
-use exh_settings::Config;
+use exh_page::Config;
 use exh_ward::{Ward, WardFault};
 use exh_world::{Event, StepFault, Turn, World};
 use std::alloc::{AllocError, Global};

@@ -2,8 +2,8 @@
 //! second, and so on: the fault is told, and no read comes after it.
 
 use crate::three_pairs::{BLOCK_LEN, is_saved, not_opened, reader_of, write_to, writer_for};
-use exh_file::{OpenFault, open};
 use exh_fixtures::{Difference, FakeReader, Part, Run, same, three_pairs};
+use exh_script::{OpenFault, open};
 use std::alloc::{AllocError, Global};
 use std::io::ErrorKind;
 

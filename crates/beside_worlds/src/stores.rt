@@ -4,9 +4,9 @@
 use crate::failing_maker::FailingMaker;
 use crate::readers::is_opened;
 use crate::three_pairs::{BLOCK_LEN, is_saved, not_opened, reader_of, write_to, writer_for};
-use exh_file::{OpenFault, Opened, open_over};
 use exh_fixtures::{Difference, FakeWriter, Part, Run, same, three_pairs};
 use exh_frames::{FailingPages, PlainMaker, PlainPages};
+use exh_script::{OpenFault, Opened, open_over};
 use std::alloc::Global;
 
 // More calls than opening and writing make.

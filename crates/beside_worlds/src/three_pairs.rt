@@ -1,8 +1,8 @@
 //! Readers and writers of the page file of the three pairs, and what comes of opening and of writing it.
 
-use exh_file::{OpenFault, Opened, SaveFault, write_file};
 use exh_fixtures::{Difference, FakeReader, FakeWriter, WriteRefusal};
 use exh_frames::Pages;
+use exh_script::{OpenFault, Opened, SaveFault, write_file};
 use std::alloc::{AllocError, Global};
 
 /// The length of a block, in bytes.

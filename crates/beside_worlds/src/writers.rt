@@ -4,9 +4,9 @@
 ghost use Rattle.std.specs.Prelude.{◌<◌};
 
 use crate::three_pairs::{BLOCK_LEN, not_opened, reader_of, write_to, writer_for};
-use exh_file::{Opened, SaveFault, open};
 use exh_fixtures::{Difference, FakeWriter, Part, Run, WriteRefusal, same, three_pairs};
 use exh_frames::FileStore;
+use exh_script::{Opened, SaveFault, open};
 use std::io::ErrorKind;
 
 // What the writer answers where it has no room.

@@ -1,7 +1,7 @@
 -- Wards of which nothing was asked yet.
 use Rattle.std.specs.Prelude.{◌≡◌, ℕ, [], slice_get, Some}
 use Rattle.exh_keyer.specs.declared.any_keyer.AnyKeyer.{AnyKeyer}
-use Rattle.exh_file.specs.Opened.{OpenedState}
+use Rattle.exh_system.specs.Opened.{OpenedState}
 use Rattle.exh_ward.specs.WardState.{WardState}
 
 -- each ward's journal is empty

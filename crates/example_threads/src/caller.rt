@@ -5,7 +5,7 @@ use exh_calls::{Call, Reply};
 use exh_copy::{CopyReader, Start};
 use exh_frames::FileStore;
 use exh_keyer::AnyKeyer;
-use exh_live_file::{Identity, LiveFile, Seat};
+use exh_live::{Identity, LiveFile, Seat};
 use exh_page::{Key, Value};
 use exh_walk::OpenGate;
 use std::sync::Wait;

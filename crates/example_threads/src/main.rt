@@ -11,10 +11,9 @@ mod service;
 
 use crate::service::{NAMES, serve};
 use anyhow::Context;
-use exh_file::{Draft, Opened, open};
 use exh_frames::FileStore;
-use exh_path::{OpenedFile, SystemDisk, open_above, save_at};
 use exh_stream::{Console, Meter, Unit, Work};
+use exh_system::{Draft, Opened, OpenedFile, SystemDisk, open, open_above, save_at};
 use std::str;
 
 // The page file. It was made by `exhash load people.exh`.

@@ -1,20 +1,19 @@
 //! A file served to callers on threads of their own, until each has put its pairs, and what it leaves.
 ghost use Rattle.std.specs.Prelude.{◌≡◌, ◌≤◌, ◌^◌, length};
 ghost use Rattle.exh_keyer.specs.Pseudokey.{any_pseudokey};
-ghost use Rattle.exh_live_file.specs.declared.ledgers.TheConstants.{ANSWER_PARTS, ENTRY_PARTS};
+ghost use Rattle.exh_live.specs.declared.ledgers.TheConstants.{ANSWER_PARTS, ENTRY_PARTS};
 ghost use Rattle.exh_prefix.specs.declared.prefix.TheConstants.{WARD_BITS_LIMIT};
 ghost use Rattle.example_threads.specs.Unasked.{AreUnasked};
 
 use crate::caller::{Caller, File, Pair};
 use anyhow::{Context, bail};
 use exh_copy::{CopyReader, CopyWriter, NewCopyFault, Start, new_copy};
-use exh_file::Opened;
 use exh_frames::FileStore;
 use exh_join::Join;
 use exh_keyer::AnyKeyer;
-use exh_live_file::{ANSWER_PARTS, Closed, Cursors, ENTRY_PARTS, Identity, LiveFile, Seat, settle};
-use exh_page::{Key, Value};
-use exh_settings::FileSettings;
+use exh_live::{ANSWER_PARTS, Closed, Cursors, ENTRY_PARTS, Identity, LiveFile, Seat, settle};
+use exh_page::{FileSettings, Key, Value};
+use exh_system::Opened;
 use exh_table::Table;
 use exh_ward::Ward;
 use std::alloc::{AllocError, Global};

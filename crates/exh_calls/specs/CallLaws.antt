@@ -1,9 +1,9 @@
 -- Laws of histories, of leading bits and of swaps, that the crates above cite.
 use Rattle.std.specs.Prelude.{◌≡◌, ◌↔◌, ℕ, ◌<◌, ◌≤◌, ◌^◌, Bool, List, [], ◌∷◌, ◌++◌, length, map, Some, None}
 use Rattle.std.specs.FinMap as fin
-use Rattle.exh_prefix.specs.declared.prefix.TheConstants.{LIMIT}
-use Rattle.exh_prefix.specs.Prefix.{Begins}
-use Rattle.exh_prefix.specs.Leading.{leading}
+use Rattle.exh_page.specs.PrefixLimits.{LIMIT}
+use Rattle.exh_page.specs.Prefix.{Begins}
+use Rattle.exh_page.specs.Leading.{leading}
 use Rattle.exh_page.specs.KeyMap.{KeyMap}
 use Rattle.exh_calls.specs.History.{IsHistory, map_left}
 use Rattle.exh_calls.specs.MapMachine.{reply_of, map_after}

@@ -1,8 +1,8 @@
 -- The map machine: what a call is answered over a finite map, and the map that it leaves.
 use Rattle.std.specs.Prelude.{◌==◌, ℕ, Bool, List, count_by, nat_le}
 use Rattle.std.specs.FinMap as map
-use Rattle.exh_prefix.specs.declared.prefix.TheConstants.{LIMIT}
-use Rattle.exh_prefix.specs.Leading.{leading}
+use Rattle.exh_page.specs.PrefixLimits.{LIMIT}
+use Rattle.exh_page.specs.Leading.{leading}
 use Rattle.exh_page.specs.KeyMap.{KeyMap}
 use Rattle.exh_calls.specs.declared.call.Call.{Call}
 use Rattle.exh_calls.specs.declared.reply.Reply.{Reply}

@@ -10,8 +10,8 @@ use Rattle.std.proofs.lemmas.Map.Lookups.{exact_bytes}
 use Rattle.exh_page.specs.KeyMap.{KeyMap}
 use Rattle.exh_page.specs.KeyMapLemmas.{same_maps}
 use Rattle.exh_calls.specs.MapMachine.{sharing}
-use Rattle.exh_prefix.specs.Leading.{leading}
-use Rattle.exh_prefix.specs.declared.prefix.TheConstants.{LIMIT}
+use Rattle.exh_page.specs.Leading.{leading}
+use Rattle.exh_page.specs.PrefixLimits.{LIMIT}
 
 abbrev pub shares : (List ℕ → ℕ) → List ℕ → List ℕ → Bool
 shares pseudo key other = leading LIMIT (pseudo other) == leading LIMIT (pseudo key)

@@ -1,10 +1,9 @@
 ghost use Rattle.std.specs.Prelude.{◌≤◌, map};
-ghost use Rattle.exh_prefix.specs.declared.prefix.TheConstants.{WARD_BITS_LIMIT};
-ghost use Rattle.exh_prefix.specs.Leading.{ward_of};
+ghost use Rattle.exh_page.specs.PrefixLimits.{WARD_BITS_LIMIT};
+ghost use Rattle.exh_page.specs.Leading.{ward_of};
 
 use crate::{Journal, Journals};
-use exh_keyer::Keyer;
-use exh_page::Key;
+use exh_page::{Key, Keyer};
 
 /// Journals in the order of their wards' numbers, of a file that is cut by this many leading bits of
 /// pseudokeys, 0 to 4.
@@ -30,6 +29,6 @@ impl<K: Keyer> Journals for FileJournals<'_, K> {
     }
 
     fn ward(&self, key: &Key) -> usize {
-        usize::from(exh_prefix::ward_number(self.ward_bits, self.keyer.pseudo(key.as_bytes())))
+        usize::from(exh_page::ward_number(self.ward_bits, self.keyer.pseudo(key.as_bytes())))
     }
 }

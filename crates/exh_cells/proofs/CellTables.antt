@@ -12,8 +12,8 @@ use Rattle.exh_prefix.specs.LeadingLemmas.{leading-lt}
 use Rattle.exh_prefix.specs.Prefix.{HasPrefix, low_of}
 use Rattle.exh_prefix.specs.PrefixLemmas.{low_of-stored, length-stored}
 use Rattle.exh_notice.specs.declared.entry.Entry.{Entry}
-use Rattle.exh_table.specs.Table.{IsEntryOf, TableMap}
-use Rattle.exh_table.specs.SetLemmas.{members_decide}
+use Rattle.exh_format.specs.Table.{IsEntryOf, TableMap}
+use Rattle.exh_format.specs.SetLemmas.{members_decide}
 use Rattle.exh_cells.specs.declared.cell.Cell.{Cell}
 use Rattle.exh_cells.specs.declared.cell.Slot.{Slot}
 use Rattle.exh_cells.specs.CellLaws.{AreTold, IsSlotOf}

@@ -14,7 +14,7 @@ use Rattle.exh_notice.specs.NoticeImages.{items}
 use Rattle.exh_codec.specs.Block.{AreZero}
 use Rattle.exh_format.specs.declared.header.Header.{Header}
 use Rattle.exh_format.specs.FileVersion.{FileVersion, FitsFile}
-use Rattle.exh_settings.specs.Keyers.{keyer_byte}
+use Rattle.exh_format.specs.Keyers.{keyer_byte}
 use Rattle.exh_format.specs.HeaderImage.{IsHeader, IsPageCount, front_bytes, header_bytes}
 use Rattle.exh_format.specs.HeaderTests.{HasMagic, IsOfVersion, IsReadHeader}
 use Rattle.exh_prefix.specs.PrefixListLemmas.{AllByRecursion-weaker}

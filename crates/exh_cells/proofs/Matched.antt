@@ -4,7 +4,7 @@ use Rattle.std.specs.FinMap.{get}
 use Rattle.std.specs.List.{slice_get}
 use Rattle.exh_notice.specs.declared.entry.Entry.{Entry}
 use Rattle.exh_notice.specs.EntryLemmas.{entry_laws}
-use Rattle.exh_table.specs.Table.{IsEntryOf, TableMap}
+use Rattle.exh_format.specs.Table.{IsEntryOf, TableMap}
 use Rattle.exh_cells.specs.declared.cell.Cell.{Cell}
 use Rattle.exh_cells.specs.CellLaws.{AreMatched, IsSlotOf}
 use Rattle.exh_cells.specs.Fit.{FitEach}

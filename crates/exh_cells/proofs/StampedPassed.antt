@@ -15,7 +15,7 @@ use Rattle.exh_codec.specs.BlockLemmas.{length-padded, padded_front, padded_rest
 use Rattle.exh_codec.specs.PageImage.{padded}
 use Rattle.exh_format.specs.declared.file_fault.FileFault.TheVariants.{Block, Magic, Version}
 use Rattle.exh_format.specs.declared.header.Header.{Header}
-use Rattle.exh_settings.specs.declared.file_settings.FileSettings.{FileSettings}
+use Rattle.exh_format.specs.declared.FileSettings.{FileSettings}
 use Rattle.exh_keyer.specs.declared.any_keyer.AnyKeyer.{AnyKeyer}
 use Rattle.exh_prefix.specs.declared.version.Version.TheVariants.{Second}
 use Rattle.exh_format.specs.FileVersion.{FileVersion, FitsFile, file_version}

@@ -8,8 +8,8 @@ use Rattle.exh_prefix.specs.Bits.{word_bits}
 use Rattle.exh_prefix.specs.Leading.{ward_of}
 use Rattle.exh_prefix.specs.Prefix.{prefix_cmp}
 use Rattle.exh_notice.specs.declared.entry.Entry.{Entry}
-use Rattle.exh_table.specs.Table.{IsEntryOf, IsTableOf, TableMap, raised}
-use Rattle.exh_table.specs.SetLemmas.{one_more}
+use Rattle.exh_format.specs.Table.{IsEntryOf, IsTableOf, TableMap, raised}
+use Rattle.exh_format.specs.SetLemmas.{one_more}
 use Rattle.exh_cells.specs.declared.cell.Cell.{Cell}
 use Rattle.exh_cells.specs.declared.cell.Slot.{Slot}
 use Rattle.exh_cells.specs.Told.{entry_in, told_at, told_by_cell, told_by_place, told_by_places, told_by_slot, told_by_slots}

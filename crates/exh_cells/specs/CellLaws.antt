@@ -7,7 +7,7 @@ use Rattle.exh_prefix.specs.Bits.{word_bits}
 use Rattle.exh_prefix.specs.Leading.{ward_of}
 use Rattle.exh_prefix.specs.Prefix.{HasPrefix}
 use Rattle.exh_notice.specs.declared.entry.Entry.{Entry}
-use Rattle.exh_table.specs.Table.{TableMap}
+use Rattle.exh_format.specs.Table.{TableMap}
 use Rattle.exh_cells.specs.declared.cell.Cell.{Cell}
 use Rattle.exh_cells.specs.declared.cell.Slot.{Slot}
 use Rattle.exh_cells.specs.Fit.{FitEach}

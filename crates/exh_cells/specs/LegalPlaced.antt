@@ -3,14 +3,14 @@ use Rattle.std.specs.Prelude.{◌≡◌, ℕ, ◌^◌, nat_eq, List, [], Option,
 use Rattle.std.specs.List.{range_with_len}
 use Rattle.exh_prefix.specs.Leading.{ward_of}
 use Rattle.exh_keyer.specs.Pseudokey.{any_pseudokey}
-use Rattle.exh_table.specs.Table.{TableMap}
-use Rattle.exh_page.specs.declared.page.Page.{Page}
-use Rattle.exh_page.specs.Page.{low_bound}
-use Rattle.exh_legal.specs.declared.reason.Reason.{Reason}
-use Rattle.exh_legal.specs.declared.reason.Reason.TheVariants.{Cap, LowBounds, Leaves, Links, Forwards, Table}
-use Rattle.exh_legal.specs.LegalParts.{FileParts, parts_of}
-use Rattle.exh_legal.specs.ReasonLaws.{IsLegalFile}
-use Rattle.exh_legal.specs.Reasons.{IsFirstUnpassed, ReasonPasses}
+use Rattle.exh_format.specs.Table.{TableMap}
+use Rattle.exh_format.specs.declared.Page.{Page}
+use Rattle.exh_format.specs.Page.{low_bound}
+use Rattle.exh_format.specs.declared.Reason.{Reason}
+use Rattle.exh_format.specs.declared.Reason.TheVariants.{Cap, LowBounds, Leaves, Links, Forwards, Table}
+use Rattle.exh_format.specs.LegalParts.{FileParts, parts_of}
+use Rattle.exh_format.specs.ReasonLaws.{IsLegalFile}
+use Rattle.exh_format.specs.Reasons.{IsFirstUnpassed, ReasonPasses}
 use Rattle.exh_cells.specs.Fit.{FitsCells}
 use Rattle.exh_cells.specs.PlacedFile.{IsPlacedFile, PlacedFile, lows_of}
 use Rattle.exh_cells.specs.Told.{AreTablesOf}

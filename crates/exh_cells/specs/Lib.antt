@@ -1,3 +1,8 @@
+pub use Rattle.exh_notice.specs.NoticeByteLemmas
+pub use Rattle.exh_format.specs.FileTests
+pub use Rattle.exh_format.specs.FileVersion
+pub use Rattle.exh_format.specs.HeaderImage
+pub use Rattle.exh_format.specs.PageFile
 pub mod Places
 pub mod WalkImage
 pub mod WalkTests
@@ -8,3 +13,4 @@ pub mod StampedHeader
 pub mod BlockLaws
 pub mod PlacedFile
 pub mod LegalPlaced
+pub mod GroupSizes

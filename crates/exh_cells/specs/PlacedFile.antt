@@ -3,8 +3,8 @@ use Rattle.std.specs.Prelude.{◌≡◌, ℕ, zero, suc, List, [], ◌++◌, len
 use Rattle.std.specs.List.{AllByRecursion, flat_map, sum}
 use Rattle.exh_prefix.specs.Version.{second_version}
 use Rattle.exh_keyer.specs.Pseudokey.{any_pseudokey}
-use Rattle.exh_page.specs.declared.page.Page.{Page}
-use Rattle.exh_page.specs.Page.{low_bound}
+use Rattle.exh_format.specs.declared.Page.{Page}
+use Rattle.exh_format.specs.Page.{low_bound}
 use Rattle.exh_codec.specs.declared.block.TheConstants.{CONTENT_LEN}
 use Rattle.exh_codec.specs.Block.{sealed}
 use Rattle.exh_codec.specs.PageImage.{IsPage, padded}

@@ -3,7 +3,7 @@ use Rattle.std.specs.Prelude.{◌≡◌, ⊤, ℕ, ◌+◌, ◌*◌, ◌^◌, �
 use Rattle.byteorder.specs.Endian.{big_bytes, big_from}
 use Rattle.exh_prefix.specs.declared.version.Version.TheVariants.{Second}
 use Rattle.exh_prefix.specs.Version.{second_version}
-use Rattle.exh_settings.specs.Keyers.{keyer_byte}
+use Rattle.exh_format.specs.Keyers.{keyer_byte}
 use Rattle.exh_codec.specs.declared.block.TheConstants.{CONTENT_LEN}
 use Rattle.exh_codec.specs.declared.image_fault.ImageFault.TheVariants as images
 use Rattle.exh_codec.specs.Block.{IsSealed, AreZero, sealed}
@@ -16,7 +16,7 @@ use Rattle.exh_format.specs.HeaderImage.{IsHeader, header_bytes}
 use Rattle.exh_format.specs.HeaderTests.{HasMagic, IsOfVersion}
 use Rattle.exh_cells.specs.declared.stamped_header.StampedHeader.{StampedHeader}
 use Rattle.exh_cells.specs.declared.fit.TheConstants.{COUNTS_LEN}
-use Rattle.exh_cells.specs.declared.stamped_header.TheConstants.{STAMPED_LEN}
+use Rattle.exh_format.specs.declared.header.TheConstants.{STAMPED_LEN}
 
 -- version 3: its images are those of version 2
 abbrev pub placed_format : FileVersion

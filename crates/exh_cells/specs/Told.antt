@@ -7,7 +7,7 @@ use Rattle.exh_prefix.specs.Leading.{ward_of}
 use Rattle.exh_notice.specs.declared.entry.Entry.{Entry}
 use Rattle.exh_notice.specs.declared.entry.Kind.{Kind}
 use Rattle.exh_notice.specs.declared.entry.Kind.TheVariants.{Merge, Split}
-use Rattle.exh_table.specs.Table.{IsTableOf, TableMap}
+use Rattle.exh_format.specs.Table.{IsTableOf, TableMap}
 use Rattle.exh_cells.specs.declared.cell.Cell.{Cell}
 use Rattle.exh_cells.specs.declared.cell.Slot.{Slot}
 

@@ -5,22 +5,11 @@ ghost use Rattle.exh_cells.specs.StampedHeader.{IsStampedPadded, placed_format};
 use crate::COUNTS_LEN;
 use byteorder::{BigEndian, ByteOrder};
 use exh_codec::{BLOCK_LEN, CONTENT_LEN, ImageFault, are_zero, is_sealed};
-use exh_format::{FileFault, Header};
+use exh_format::{
+    FRONT_LEN, FileFault, FileSettings, Header, MAGIC, PLACED_NUMBER, STAMPED_LEN, keyer_of_byte,
+};
 use exh_keyer::AnyKeyer;
 use exh_prefix::Version;
-use exh_settings::{FileSettings, keyer_of_byte};
-
-/// How a page file begins.
-const MAGIC: [u8; 8] = *b"EXHASHPF";
-
-/// The number of version 3 in a header.
-const PLACED_NUMBER: u16 = 3;
-
-/// How many bytes of a header stand before the page counts.
-const FRONT_LEN: usize = 20;
-
-/// How many bytes of a header block say something.
-pub(crate) const STAMPED_LEN: usize = FRONT_LEN + 4 * COUNTS_LEN + 16;
 
 /// What the header block of a page file of version 3 says.
 #[derive(Clone, Copy)]

@@ -3,15 +3,15 @@ ghost use Rattle.std.specs.FinMap.{empty};
 ghost use Rattle.exh_prefix.specs.declared.prefix.TheConstants.{LIMIT, WARD_BITS_LIMIT};
 ghost use Rattle.exh_prefix.specs.Prefix.{HasPrefix};
 ghost use Rattle.exh_notice.specs.declared.entry.Entry.{Entry as EntryValue};
-ghost use Rattle.exh_table.specs.Table.{IsTableOf, TableMap};
+ghost use Rattle.exh_format.specs.Table.{IsTableOf, TableMap};
 ghost use Rattle.exh_cells.specs.Fit.{FitEach, HasPrefixes};
 ghost use Rattle.exh_cells.specs.Told.{AreTablesOf, entry_in, told_at, kind_in, number_at, told_by_cell};
 
 use crate::cell::{Cell, SLOTS, Slot};
 use crate::fit::{ward_at, ward_count};
+use exh_format::Table;
 use exh_notice::{Entry, Kind};
 use exh_prefix::{PageNo, Prefix};
-use exh_table::Table;
 use std::alloc::{AllocError, Global};
 
 /// The table of each ward that cells tell of, the cells of pages that have these low bounds. It takes memory for an

@@ -9,7 +9,7 @@ use Rattle.exh_page.specs.Records.{value_at}
 use Rattle.exh_calls.specs.declared.call.Call.TheVariants.{Get}
 use Rattle.exh_calls.specs.Call.{key_of}
 use Rattle.exh_calls.specs.Effect.{Change, Keep, effect_of}
-use Rattle.exh_ward.specs.PageAnswer.{effect_at, records_after, records_changed}
+use Rattle.exh_change.specs.PageAnswer.{effect_at, records_after, records_changed}
 
 same_records : (page : Page) → with_records (records_of page) page ≡ page
 same_records (Live prefix link records) = refl

@@ -11,7 +11,7 @@ use Rattle.exh_legal.specs.Pages.{IsHome}
 use Rattle.exh_page.specs.declared.page.Page.{Page}
 use Rattle.exh_page.specs.declared.page.Page.TheVariants.{Forward, Live}
 use Rattle.exh_page.specs.declared.record.Record.{Record}
-use Rattle.exh_walked.specs.declared.home.Home.{Home}
+use Rattle.exh_edits.specs.declared.home.Home.{Home}
 use Rattle.exh_change.specs.declared.draft.Draft.{Draft}
 use Rattle.exh_change.specs.Changes.{AreCounted, EditsMore, HasGrown, IsHalved, MayEditTwo, blocks_at, prefix_in}
 use Rattle.exh_change.specs.Drafts.{IsSound}

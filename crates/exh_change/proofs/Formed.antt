@@ -20,7 +20,7 @@ use Rattle.exh_calls.specs.Call.{key_of}
 use Rattle.exh_calls.specs.CallEffectLemmas.{full_sets_nothing}
 use Rattle.exh_calls.specs.Effect.{Change, Keep, Remove, Set, effect_of}
 use Rattle.exh_legal.specs.Pages.{IsHome}
-use Rattle.exh_ward.specs.PageAnswer.{records_after, records_changed}
+use Rattle.exh_change.specs.PageAnswer.{records_after, records_changed}
 use Rattle.exh_change.specs.Changes.{IsOfPrefix}
 
 -- ---- splits

@@ -14,10 +14,10 @@ use Rattle.exh_legal.specs.Pages.{IsHome}
 use Rattle.exh_cells.specs.declared.cell.Cell.{Cell}
 use Rattle.exh_cells.specs.PlacedFile.{PlacedFile}
 use Rattle.exh_edits.specs.PlacedEdits.{with_cell, with_more, with_page}
-use Rattle.exh_steps.specs.PlacedSteps.{count_in, left_half as left_at, new_cell, right_half as right_at, split_fresh, split_revived, ward_in, with_change}
-use Rattle.exh_walked.specs.declared.home.Home.{Home}
-use Rattle.exh_walked.specs.PlacedHome.{IsHomeIn}
-use Rattle.exh_walked.specs.WalkBlocks.{pages_in}
+use Rattle.exh_change.specs.PlacedSteps.{count_in, left_half as left_at, new_cell, right_half as right_at, split_fresh, split_revived, ward_in, with_change}
+use Rattle.exh_edits.specs.declared.home.Home.{Home}
+use Rattle.exh_change.specs.PlacedHome.{IsHomeIn}
+use Rattle.exh_change.specs.WalkBlocks.{pages_in}
 use Rattle.exh_direct.specs.declared.direct_fault.DirectFault.{DirectFault}
 use Rattle.exh_direct.specs.DirectLaws.{IsOtherFault}
 use Rattle.exh_change.specs.declared.draft.Draft.{Draft}

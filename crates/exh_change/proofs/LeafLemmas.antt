@@ -8,8 +8,8 @@ use Rattle.exh_page.specs.declared.record.Record.{Record}
 use Rattle.exh_page.specs.Page.{with_records}
 use Rattle.exh_legal.specs.Pages.{IsHome}
 use Rattle.exh_cells.specs.PlacedFile.{PlacedFile}
-use Rattle.exh_walked.specs.declared.home.Home.{Home}
-use Rattle.exh_walked.specs.PlacedHome.{IsHomeIn}
+use Rattle.exh_edits.specs.declared.home.Home.{Home}
+use Rattle.exh_change.specs.PlacedHome.{IsHomeIn}
 use Rattle.exh_change.specs.Changes.{IsOfPrefix, prefix_in}
 use Rattle.exh_change.specs.Leaves.{IsLeaf, leaf_of, leaves_in}
 

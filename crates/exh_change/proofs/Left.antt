@@ -10,14 +10,14 @@ use Rattle.exh_calls.specs.MapMachine.{map_after, reply_of}
 use Rattle.exh_cells.specs.declared.stamped_header.StampedHeader.{StampedHeader}
 use Rattle.exh_cells.specs.PlacedFile.{IsPlacedFile, PlacedFile}
 use Rattle.exh_edits.specs.PlacedEdits.{with_header, with_page}
-use Rattle.exh_steps.specs.PlacedSteps.{IsStep, page_after}
-use Rattle.exh_steps.specs.StepLaws.{AnswersKeepLegal, IsMachines, StampsKeepLegal}
+use Rattle.exh_change.specs.PlacedSteps.{IsStep, page_after}
+use Rattle.exh_change.specs.StepLaws.{AnswersKeepLegal, IsMachines, StampsKeepLegal}
 use Rattle.exh_calls.specs.Call.{key_of}
 use Rattle.exh_legal.specs.Pages.{IsHome}
-use Rattle.exh_ward.specs.PageAnswer.{OverflowsPage}
-use Rattle.exh_walked.specs.declared.home.Home.{Home}
-use Rattle.exh_walked.specs.PlacedHome.{IsHomeIn}
-use Rattle.exh_walked.specs.PlacedLaws.{map_in}
+use Rattle.exh_change.specs.PageAnswer.{OverflowsPage}
+use Rattle.exh_edits.specs.declared.home.Home.{Home}
+use Rattle.exh_change.specs.PlacedHome.{IsHomeIn}
+use Rattle.exh_change.specs.PlacedLaws.{map_in}
 use Rattle.exh_change.specs.declared.draft.Draft.{Draft}
 use Rattle.exh_calls.specs.declared.call.Call.TheVariants.{Del}
 use Rattle.exh_change.specs.ChangeLaws.{IsAnswered, IsChange, IsLeft, SettlesHome, key_in, map_then, reply_in, stamped_anew}

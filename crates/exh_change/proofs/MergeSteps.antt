@@ -11,8 +11,8 @@ use Rattle.exh_cells.specs.declared.stamped_header.StampedHeader.{StampedHeader}
 use Rattle.exh_cells.specs.LegalPlaced.{IsLegalPlaced}
 use Rattle.exh_cells.specs.PlacedFile.{PlacedFile}
 use Rattle.exh_edits.specs.PlacedEdits.{with_cell, with_page}
-use Rattle.exh_steps.specs.PlacedSteps.{merged, with_change}
-use Rattle.exh_steps.specs.StepLaws.{IsMergeable, MergesKeepLegal}
+use Rattle.exh_change.specs.PlacedSteps.{merged, with_change}
+use Rattle.exh_change.specs.StepLaws.{IsMergeable, MergesKeepLegal}
 use Rattle.exh_change.specs.declared.draft.Draft.{Draft}
 use Rattle.exh_change.specs.Changes.{IsOfPrefix}
 use Rattle.exh_change.specs.Drafts.{IsOf}

@@ -13,11 +13,11 @@ use Rattle.exh_calls.specs.Effect.{sets_new}
 use Rattle.exh_cells.specs.LegalPlaced.{IsLegalPlaced}
 use Rattle.exh_cells.specs.PlacedFile.{PlacedFile}
 use Rattle.exh_edits.specs.PlacedEdits.{with_header, with_page}
-use Rattle.exh_steps.specs.PlacedSteps.{IsStep, page_after}
-use Rattle.exh_steps.specs.StepLaws.{StampsKeepLegal}
-use Rattle.exh_walked.specs.declared.home.Home.{Home}
-use Rattle.exh_walked.specs.PlacedHome.{IsHomeIn}
-use Rattle.exh_walked.specs.PlacedLaws.{map_in}
+use Rattle.exh_change.specs.PlacedSteps.{IsStep, page_after}
+use Rattle.exh_change.specs.StepLaws.{StampsKeepLegal}
+use Rattle.exh_edits.specs.declared.home.Home.{Home}
+use Rattle.exh_change.specs.PlacedHome.{IsHomeIn}
+use Rattle.exh_change.specs.PlacedLaws.{map_in}
 use Rattle.exh_change.specs.declared.draft.Draft.{Draft}
 use Rattle.exh_change.specs.ChangeLaws.{IsLeft, SettlesHome, key_in, map_then, stamped_anew}
 use Rattle.exh_change.specs.Changes.{Becomes, HasGrown, HasRoom, HasSameLeaves, IsLater, IsUnited, IsUnitedAt, Settles, prefix_in}

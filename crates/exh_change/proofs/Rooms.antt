@@ -6,16 +6,16 @@ use Rattle.exh_page.specs.declared.page.Page.TheVariants.{Forward, Live}
 use Rattle.exh_page.specs.KeyMap.{KeyMap}
 use Rattle.exh_page.specs.Page.{low_bound, records_of}
 use Rattle.exh_calls.specs.declared.call.Call.{Call}
-use Rattle.exh_ward.specs.PageAnswer.{OverflowsPage}
+use Rattle.exh_change.specs.PageAnswer.{OverflowsPage}
 use Rattle.exh_calls.specs.Effect.{sets_new}
 use Rattle.std.proofs.lemmas.Bool.{false≢true}
 use Rattle.exh_table.specs.Table.{TableMap}
 use Rattle.exh_cells.specs.LegalPlaced.{IsLegalPlaced}
 use Rattle.exh_cells.specs.PlacedFile.{PlacedFile, lows_of}
-use Rattle.exh_steps.specs.PlacedSteps.{IsStep}
-use Rattle.exh_walked.specs.declared.home.Home.{Home}
-use Rattle.exh_walked.specs.PlacedHome.{IsHomeIn}
-use Rattle.exh_walked.specs.PlacedLaws.{map_in}
+use Rattle.exh_change.specs.PlacedSteps.{IsStep}
+use Rattle.exh_edits.specs.declared.home.Home.{Home}
+use Rattle.exh_change.specs.PlacedHome.{IsHomeIn}
+use Rattle.exh_change.specs.PlacedLaws.{map_in}
 use Rattle.exh_change.specs.declared.draft.Draft.{Draft}
 use Rattle.exh_change.specs.Changes.{HasGrown, HasRoom, IsHomeOf, IsLater, prefix_in}
 use Rattle.exh_change.specs.Drafts.{IsOf, IsSound}

@@ -13,8 +13,8 @@ use Rattle.exh_legal.specs.Pages.{IsHome}
 use Rattle.exh_cells.specs.declared.cell.Cell.{Cell}
 use Rattle.exh_cells.specs.declared.stamped_header.StampedHeader.{StampedHeader}
 use Rattle.exh_cells.specs.PlacedFile.{PlacedFile}
-use Rattle.exh_steps.specs.PlacedSteps.{merged, slot_of}
-use Rattle.exh_steps.specs.StepLaws.{StandApart}
+use Rattle.exh_change.specs.PlacedSteps.{merged, slot_of}
+use Rattle.exh_change.specs.StepLaws.{StandApart}
 use Rattle.exh_change.specs.declared.draft.Draft.{Draft}
 use Rattle.exh_change.specs.Changes.{IsOfPrefix, Settles, SettlesLeft}
 use Rattle.exh_change.specs.Drafts.{IsOf}

@@ -14,7 +14,7 @@ use Rattle.exh_cells.specs.declared.cell.Cell.{Cell}
 use Rattle.exh_cells.specs.declared.stamped_header.StampedHeader.{StampedHeader}
 use Rattle.exh_cells.specs.LegalPlaced.{IsLegalPlaced}
 use Rattle.exh_cells.specs.PlacedFile.{PlacedFile, lows_of}
-use Rattle.exh_steps.specs.StepLaws.{IsSplittable, SplitsKeepLegal}
+use Rattle.exh_change.specs.StepLaws.{IsSplittable, SplitsKeepLegal}
 use Rattle.exh_change.specs.declared.draft.Draft.{Draft}
 use Rattle.exh_change.specs.Drafts.{IsOf}
 use Rattle.exh_change.proofs.Counts.{few_pages}

@@ -14,10 +14,10 @@ use Rattle.exh_cells.specs.PlacedFile.{PlacedFile, lows_of}
 use Rattle.exh_edits.specs.declared.block_edit.BlockEdit.{BlockEdit}
 use Rattle.exh_edits.specs.BlockEdits.{with_edits}
 use Rattle.exh_edits.specs.PlacedEdits.{with_page}
-use Rattle.exh_steps.specs.PlacedSteps.{IsStep, page_after, reply_at}
-use Rattle.exh_walked.specs.declared.home.Home.{Home}
-use Rattle.exh_walked.specs.PlacedHome.{IsHomeIn}
-use Rattle.exh_walked.specs.PlacedLaws.{map_in}
+use Rattle.exh_change.specs.PlacedSteps.{IsStep, page_after, reply_at}
+use Rattle.exh_edits.specs.declared.home.Home.{Home}
+use Rattle.exh_change.specs.PlacedHome.{IsHomeIn}
+use Rattle.exh_change.specs.PlacedLaws.{map_in}
 use Rattle.exh_change.specs.declared.changed.Changed.{Changed}
 use Rattle.exh_change.specs.declared.draft.Draft.{Draft}
 use Rattle.exh_change.specs.Drafts.{IsOf}

@@ -9,11 +9,11 @@ use Rattle.exh_page.specs.Page.{IsWellFormed}
 use Rattle.exh_cells.specs.PlacedFile.{PlacedFile}
 use Rattle.exh_cells.specs.Places.{group_in, page_block_of, walk_block_of}
 use Rattle.exh_edits.specs.EditsInTurn.{AreAmong, AreMoreAt, places_of}
-use Rattle.exh_walked.specs.declared.home.Home.{Home}
-use Rattle.exh_walked.specs.PlacedHome.{IsHomeIn}
-use Rattle.exh_walked.specs.PlacedLaws.{map_in}
-use Rattle.exh_walked.specs.WalkBlocks.{pages_in}
-use Rattle.exh_steps.specs.PlacedSteps.{IsStep}
+use Rattle.exh_edits.specs.declared.home.Home.{Home}
+use Rattle.exh_change.specs.PlacedHome.{IsHomeIn}
+use Rattle.exh_change.specs.PlacedLaws.{map_in}
+use Rattle.exh_change.specs.WalkBlocks.{pages_in}
+use Rattle.exh_change.specs.PlacedSteps.{IsStep}
 use Rattle.exh_change.specs.declared.draft.Draft.{Draft}
 use Rattle.exh_change.specs.Drafts.{IsOf, pseudo_in}
 use Rattle.exh_change.specs.Leaves.{IsOneOf, MayMerge, MayNotMerge, edits_for, leaves_in, united_leaves}

@@ -6,7 +6,7 @@ use Rattle.exh_cells.specs.PlacedFile.{IsPlacedFile, PlacedFile}
 use Rattle.exh_cells.specs.Places.{end_block_of}
 use Rattle.exh_cells.specs.StampedHeader.{IsStampedHeader}
 use Rattle.exh_edits.specs.BlockEdits.{with_edits}
-use Rattle.exh_walked.specs.WalkBlocks.{pages_in}
+use Rattle.exh_change.specs.WalkBlocks.{pages_in}
 use Rattle.exh_change.specs.declared.draft.Draft.{Draft}
 use Rattle.exh_edits.specs.EditsInTurn.{AreEdits}
 

@@ -10,7 +10,7 @@ use Rattle.exh_calls.specs.declared.call.Call.TheVariants.{Del, Get, Put, Swap}
 use Rattle.exh_cells.specs.declared.cell.Cell.{Cell}
 use Rattle.exh_cells.specs.PlacedFile.{PlacedFile}
 use Rattle.exh_edits.specs.declared.block_edit.BlockEdit.{BlockEdit}
-use Rattle.exh_steps.specs.PlacedSteps.{IsLiveIn, slot_of}
+use Rattle.exh_change.specs.PlacedSteps.{IsLiveIn, slot_of}
 
 -- the prefix of a live page, none where it forwards
 abbrev pub leaf_of : Page → Option (List Bool)

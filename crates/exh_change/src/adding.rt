@@ -14,20 +14,20 @@ ghost use Rattle.exh_cells.specs.StampedHeader.{IsStampedHeader};
 ghost use Rattle.exh_direct.specs.DirectLaws.{IsOtherFault};
 ghost use Rattle.exh_direct.specs.KnownBlocks.{IsCount};
 ghost use Rattle.exh_edits.specs.PlacedEdits.{counted_more, with_more};
-ghost use Rattle.exh_steps.specs.PlacedSteps.{new_cell};
-ghost use Rattle.exh_walked.specs.WalkBlocks.{pages_in};
+ghost use Rattle.exh_change.specs.PlacedSteps.{new_cell};
+ghost use Rattle.exh_change.specs.WalkBlocks.{pages_in};
 ghost use Rattle.exh_change.specs.Changes.{EditsMore, IsLater, blocks_at};
 ghost use Rattle.exh_change.specs.Drafts.{IsOf, IsSound, OfEach, pseudo_in};
 
 use crate::cells::{cells_of, new_cell};
 use crate::draft::Draft;
+use crate::page_count;
 use exh_cells::{Cell, StampedHeader, group_of, page_block, walk_block};
 use exh_direct::{Blocks, DirectFault};
 use exh_edits::{header_image, page_image, put_block, walk_image};
 use exh_format::push_item;
 use exh_page::Page;
 use exh_prefix::PageNo;
-use exh_walked::page_count;
 use std::alloc::{AllocError, Global};
 
 /// Puts a page of a ward behind the others of a draft, whose number in the ward is how many it has; its cell has no entry.

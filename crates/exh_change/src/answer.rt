@@ -3,7 +3,7 @@ ghost use Rattle.std.specs.Prelude.{◌≡◌, ◌↔◌, Bool, true, false, len
 ghost use Rattle.exh_page.specs.Page.{IsLive, records_of, with_records};
 ghost use Rattle.exh_calls.specs.Call.{key_of};
 ghost use Rattle.exh_calls.specs.Effect.{Keep, change_of};
-ghost use Rattle.exh_ward.specs.PageAnswer.{OverflowsPage, effect_at, records_after, records_changed, reply_by};
+ghost use Rattle.exh_change.specs.PageAnswer.{OverflowsPage, effect_at, records_after, records_changed, reply_by};
 
 use exh_calls::{Call, KeyChange, Reply};
 use exh_page::{Key, Page, Record};

@@ -7,19 +7,19 @@ ghost use Rattle.exh_cells.specs.WalkImage.{IsCell};
 ghost use Rattle.exh_direct.specs.DirectLaws.{IsOtherFault};
 ghost use Rattle.exh_direct.specs.KnownBlocks.{IsCount};
 ghost use Rattle.exh_edits.specs.PlacedEdits.{group_cells, with_cell};
-ghost use Rattle.exh_steps.specs.PlacedSteps.{new_cell, slot_of, with_change};
-ghost use Rattle.exh_walked.specs.WalkBlocks.{pages_in};
+ghost use Rattle.exh_change.specs.PlacedSteps.{new_cell, slot_of, with_change};
+ghost use Rattle.exh_change.specs.WalkBlocks.{pages_in};
 ghost use Rattle.exh_cells.specs.Places.{group_in, walk_block_of};
 ghost use Rattle.exh_change.specs.Changes.{EditsMore};
 ghost use Rattle.exh_change.specs.Drafts.{IsOf, IsSound, OfEach};
 
 use crate::draft::Draft;
+use crate::page_count;
 use crate::reading::read_edited;
 use exh_cells::{Cell, GROUP_PAGES, SLOTS, Slot, decode_cells, group_of, walk_block};
 use exh_codec::BLOCK_LEN;
 use exh_direct::{Blocks, DirectFault};
 use exh_edits::{put_block, walk_image};
-use exh_walked::page_count;
 use std::alloc::Global;
 
 /// The cell of the page at a place of a draft. It takes memory for the cells of its walk block.

@@ -9,8 +9,8 @@ ghost use Rattle.exh_calls.specs.declared.call.Call.TheVariants.{Del, Get};
 ghost use Rattle.exh_calls.specs.Effect.{sets_new};
 ghost use Rattle.exh_direct.specs.DirectLaws.{IsOtherFault};
 ghost use Rattle.exh_direct.specs.KnownBlocks.{IsCount};
-ghost use Rattle.exh_walked.specs.WalkBlocks.{pages_in};
-ghost use Rattle.exh_ward.specs.PageAnswer.{OverflowsPage, effect_at, records_after, reply_by};
+ghost use Rattle.exh_change.specs.WalkBlocks.{pages_in};
+ghost use Rattle.exh_change.specs.PageAnswer.{OverflowsPage, effect_at, records_after, reply_by};
 ghost use Rattle.exh_format.specs.Reading.{AreBytes};
 ghost use Rattle.exh_cells.specs.LegalPlaced.{IsLegalPlaced, IsLegalPlacedFile};
 ghost use Rattle.exh_cells.specs.PlacedFile.{PlacedFile};
@@ -29,12 +29,12 @@ use crate::merging::merge;
 use crate::pages::put_page;
 use crate::reading::read_draft;
 use crate::splitting::make_room;
+use crate::{Home, find_home};
 use exh_calls::{Call, Reply};
 use exh_cells::StampedHeader;
 use exh_direct::{Blocks, DirectFault};
 use exh_edits::{header_image, put_block};
 use exh_keyer::Keyer;
-use exh_walked::{Home, find_home};
 use std::alloc::{AllocError, Global};
 
 /// What a call is answered over a page file of version 3, and the blocks that change with it, of which the header's has the
@@ -91,8 +91,8 @@ fn change_in<B: Blocks>(
     ensures legal { OfEach (B.known blocks.old) draft.old (λ base file. (tables : List TableMap) → draft.old.edits.items.items ≡ [] → AreBytes base → IsLegalPlaced file tables
         → MatchResult result (λ answered. IsAnswered base file call.now stamp draft.new answered.0 answered.1) IsOtherFault) }
 {
-    exh_steps::answers_keep_legal();
-    exh_steps::stamps_keep_legal();
+    crate::answers_keep_legal();
+    crate::stamps_keep_legal();
     let pseudokey = draft.header.settings.keyer.pseudo(call.key().as_bytes());
     let home = find_home(
         alloc,

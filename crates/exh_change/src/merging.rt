@@ -8,8 +8,8 @@ ghost use Rattle.exh_page.specs.Page.{IsLive, IsWellFormed, records_of};
 ghost use Rattle.exh_cells.specs.WalkImage.{IsCell};
 ghost use Rattle.exh_direct.specs.DirectLaws.{IsOtherFault};
 ghost use Rattle.exh_direct.specs.KnownBlocks.{IsCount};
-ghost use Rattle.exh_walked.specs.WalkBlocks.{pages_in};
-ghost use Rattle.exh_steps.specs.PlacedSteps.{slot_of};
+ghost use Rattle.exh_change.specs.WalkBlocks.{pages_in};
+ghost use Rattle.exh_change.specs.PlacedSteps.{slot_of};
 ghost use Rattle.exh_table.specs.Table.{TableMap};
 ghost use Rattle.exh_format.specs.Reading.{AreBytes};
 ghost use Rattle.exh_cells.specs.LegalPlaced.{IsLegalPlaced, IsLegalPlacedFile};
@@ -25,11 +25,11 @@ use crate::answer::record_count;
 use crate::cells::{cell_at, put_cell, with_change};
 use crate::draft::Draft;
 use crate::pages::{page_at, put_page};
+use crate::{find_home, page_count};
 use exh_cells::Cell;
 use exh_direct::{Blocks, DirectFault};
 use exh_page::Page;
 use exh_prefix::Prefix;
-use exh_walked::{find_home, page_count};
 use std::alloc::{AllocError, Global};
 
 /// Merges the page at a place of a draft, which a key was taken out of and has this prefix, with its buddy, where both are
@@ -51,7 +51,7 @@ pub(crate) fn merge<B: Blocks>(
     ensures legal { OfEach (B.known blocks.old) draft.old (λ base file. (tables : List TableMap) (old : PlacedFile) (old_tables : List TableMap) → IsLegalPlaced file tables → AreBytes base → IsLegalPlacedFile old old_tables base → HasSameLeaves old file
         → slice_get (leaves_in file) place ≡ Some (Some prefix) → MatchResult result (λ _. Settles base file place draft.old draft.new) IsOtherFault) }
 {
-    exh_steps::pages_stand_apart();
+    crate::pages_stand_apart();
     if prefix.len() <= draft.header.settings.ward_bits {
         return Ok(());
     }
@@ -89,8 +89,8 @@ fn merge_left<B: Blocks>(
     ensures two { OnOk result (MayEditTwo draft.old draft.new) }
     ensures legal { OfEach (B.known blocks.old) draft.old (λ base file. (tables : List TableMap) → IsLegalPlaced file tables → MatchResult result (λ _. SettlesLeft base file parent place draft.old draft.new) IsOtherFault) }
 {
-    exh_steps::merges_keep_legal();
-    exh_steps::pages_stand_apart();
+    crate::merges_keep_legal();
+    crate::pages_stand_apart();
     let page = page_at(alloc, blocks, draft, place)?;
     if !is_child(&page, parent, false) {
         return Ok(());

@@ -7,7 +7,7 @@ ghost use Rattle.exh_cells.specs.PlacedFile.{PlacedFile};
 ghost use Rattle.exh_direct.specs.DirectLaws.{IsOtherFault};
 ghost use Rattle.exh_direct.specs.KnownBlocks.{IsCount};
 ghost use Rattle.exh_edits.specs.PlacedEdits.{with_page};
-ghost use Rattle.exh_walked.specs.WalkBlocks.{pages_in};
+ghost use Rattle.exh_change.specs.WalkBlocks.{pages_in};
 ghost use Rattle.exh_cells.specs.Places.{page_block_of};
 ghost use Rattle.exh_change.specs.Changes.{EditsMore};
 ghost use Rattle.exh_change.specs.Drafts.{IsOf, IsSound, OfEach, pseudo_in};

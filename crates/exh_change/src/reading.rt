@@ -8,12 +8,12 @@ ghost use Rattle.exh_edits.specs.EditLaws.{StandsAt};
 ghost use Rattle.exh_change.specs.Drafts.{IsOf, IsSound, OverEach};
 
 use crate::draft::Draft;
+use crate::page_count;
 use exh_cells::{StampedHeader, end_block};
 use exh_codec::BLOCK_LEN;
 use exh_direct::{Blocks, DirectFault, read_block};
 use exh_edits::{block_in, blocks_stand, no_edits};
 use exh_format::FileFault;
-use exh_walked::page_count;
 use std::alloc::Global;
 
 /// The draft of a file that hasn't changed yet. It takes no memory.

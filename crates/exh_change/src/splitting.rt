@@ -1,6 +1,6 @@
 ghost use Rattle.std.specs.Prelude.{◌≡◌, ◌≢◌, ◌<◌, ◌≤◌, ◌+◌, ◌-◌, ◌^◌, ◌%◌, ◌⊎◌, ℕ, Bool, true, false, List, [], ◌∷◌, ◌++◌, Option, Some, length, slice_get, IsTrue, ◌↔◌, IfOk, IfErr, MatchResult, OnOk};
 ghost use Rattle.exh_prefix.specs.declared.prefix.TheConstants.{LIMIT};
-ghost use Rattle.exh_prefix.specs.Prefix.{Begins};
+ghost use Rattle.exh_prefix.specs.Prefix.{Begins, low_of};
 ghost use Rattle.exh_page.specs.declared.page.Page.TheVariants.{Forward, Live};
 ghost use Rattle.exh_page.specs.declared.record.Record.{Record};
 ghost use Rattle.exh_page.specs.Page.{IsDivisible, low_bound, records_of};
@@ -12,12 +12,11 @@ ghost use Rattle.exh_direct.specs.DirectLaws.{IsOtherFault};
 ghost use Rattle.exh_direct.specs.KnownBlocks.{IsCount};
 ghost use Rattle.exh_change.specs.Changes.{HasGrown, HasRoom, IsAtHome, IsHalved, IsHomeOf, IsLater};
 ghost use Rattle.exh_change.specs.Drafts.{IsOf, IsSound, OfEach, pseudo_in};
-ghost use Rattle.exh_ward.specs.PageAnswer.{OverflowsPage};
+ghost use Rattle.exh_change.specs.PageAnswer.{OverflowsPage};
 ghost use Rattle.exh_calls.specs.Effect.{sets_new};
-ghost use Rattle.exh_steps.specs.PlacedSteps.{count_in, slot_of, split_fresh, split_revived};
-ghost use Rattle.exh_walked.specs.PlacedHome.{IsHomeIn};
+ghost use Rattle.exh_change.specs.PlacedSteps.{count_in, slot_of, split_fresh, split_revived};
+ghost use Rattle.exh_change.specs.PlacedHome.{IsHomeIn};
 ghost use Rattle.exh_cells.specs.declared.cell.Cell.{Cell as CellValue};
-ghost use Rattle.exh_prefix.specs.Prefix.{low_of};
 
 use crate::adding::add_page;
 use crate::answer::overflows;
@@ -25,12 +24,12 @@ use crate::cells::{cell_at, put_cell, with_change};
 use crate::draft::Draft;
 use crate::halves::{Halves, halves_of, prefix_of};
 use crate::pages::{page_at, put_page};
+use crate::{Home, page_count};
 use exh_calls::Call;
 use exh_cells::Cell;
 use exh_direct::{Blocks, DirectFault};
 use exh_page::Page;
 use exh_prefix::{Prefix, ward_number};
-use exh_walked::{Home, page_count};
 use std::alloc::Global;
 
 /// Splits the home of a call's key as long as the call would overflow it. It answers the key's home then.
@@ -83,7 +82,7 @@ fn split<B: Blocks>(
     ensures legal { OfEach (B.known blocks.old) draft.old (λ base file. (tables : List TableMap) → IsLegalPlaced file tables → IsHomeIn file pseudokey home.now → draft.old.header.settings.cap ≤ length (records_of home.now.page)
         → MatchResult result (HasRoom base file draft.new pseudokey) IsOtherFault) }
 {
-    exh_steps::splits_keep_legal();
+    crate::splits_keep_legal();
     let prefix = prefix_of(&home.page);
     let cell = cell_at(alloc, blocks, draft, home.place)?;
     let slot = cell.slots[usize::from(prefix.len())];

@@ -7,10 +7,10 @@ use Rattle.exh_stream.specs.Output.{AppendsBeginning}
 use Rattle.exh_stream.specs.OutputLemmas.{AppendsBeginning-after}
 use Rattle.exh_script.specs.Served.{PrintsFront, PrintsLines}
 use Rattle.exh_script.specs.Text.{Beginning}
-use Rattle.exh_file.specs.Opened.{OpenedState}
+use Rattle.exh_everyday.specs.Opened.{OpenedState}
 use Rattle.exh_script.specs.declared.serve_fault.ServeFault.{ServeFault}
 use Rattle.exh_script.specs.declared.serve_fault.ServeFault.TheVariants.{Memory, Write}
-use Rattle.exh_answer.specs.LastLine.{memory_line}
+use Rattle.exh_everyday.specs.LastLine.{memory_line}
 use Rattle.exh_cli.specs.ScriptRun.{RunPrints}
 
 module _ (begin : Beginning) where

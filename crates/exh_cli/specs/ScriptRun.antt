@@ -2,17 +2,17 @@
 use Rattle.std.specs.Prelude.{◌≡◌, ◌⊎◌, ℕ, List, ◌++◌, Option, None, Some, Result, Ok, Err}
 use Rattle.std.specs.Io.KnownBytes.{Appends}
 use Rattle.exh_stream.specs.Output.{AppendsBeginning}
-use Rattle.exh_file.specs.Opened.{OpenedState}
+use Rattle.exh_everyday.specs.Opened.{OpenedState}
 use Rattle.exh_script.specs.Text.{Beginning}
 use Rattle.exh_script.specs.Served.{PrintsLines, PrintsText, PrintsUnread, PrintsWhole, unread_text}
 use Rattle.exh_script.specs.declared.serve_fault.ServeFault.{ServeFault}
 use Rattle.exh_script.specs.declared.serve_fault.ServeFault.TheVariants.{Write, Memory, Page}
-use Rattle.exh_answer.specs.LastLine.{memory_line}
-use Rattle.exh_job.specs.declared.job_path.JobPath.{JobPath}
-use Rattle.exh_job.specs.declared.ending.Ending.{Ending}
-use Rattle.exh_job.specs.declared.ending.Ending.TheVariants.{Over, Save, SaveNew}
-use Rattle.exh_answer.specs.declared.status.Status.{Status}
-use Rattle.exh_answer.specs.declared.status.Status.TheVariants.{Done, Refused}
+use Rattle.exh_everyday.specs.LastLine.{memory_line}
+use Rattle.exh_everyday.specs.declared.JobPath.{JobPath}
+use Rattle.exh_everyday.specs.declared.Ending.{Ending}
+use Rattle.exh_everyday.specs.declared.Ending.TheVariants.{Over, Save, SaveNew}
+use Rattle.exh_everyday.specs.declared.Status.{Status}
+use Rattle.exh_everyday.specs.declared.Status.TheVariants.{Done, Refused}
 
 -- Of what a first line begins, of a writer that held `old` bytes before a run and `new` ones after it, where these are
 -- known, and of a reader that had `unread` bytes left.

@@ -4,8 +4,8 @@ use Rattle.std.specs.Io.KnownBytes.{Appends}
 use Rattle.exh_stream.specs.Output.{AppendsBeginning}
 use Rattle.exh_live.specs.StormFault.{storm_fault_number}
 use Rattle.exh_live.specs.declared.fault.StormFault.{StormFault}
-use Rattle.exh_answer.specs.declared.status.Status.{Status}
-use Rattle.exh_answer.specs.declared.status.Status.TheVariants.{Done, Refused}
+use Rattle.exh_everyday.specs.declared.Status.{Status}
+use Rattle.exh_everyday.specs.declared.Status.TheVariants.{Done, Refused}
 
 -- how many answers were settled, or the refusal's number
 abbrev pub storm_line : Result ℕ StormFault → List ℕ

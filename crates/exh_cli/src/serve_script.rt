@@ -1,12 +1,12 @@
 //! The run of a script: what it prints, and how the program then ends.
 ghost use Rattle.exh_script.specs.OpenedScript.{beginning};
-ghost use Rattle.exh_job.specs.JobPath.{SavesAt};
+ghost use Rattle.exh_everyday.specs.JobPath.{SavesAt};
 ghost use Rattle.exh_cli.specs.ScriptRun.{IsEnding, RunPrints};
 
-use exh_job::{Ending, FileWards, JobPath, MAKER, Status, print_out_of_memory};
-use exh_notes::Listener;
+use exh_everyday::{Ending, FileWards, JobPath, MAKER, Status, print_out_of_memory};
 use exh_script::{ServeFault, serve_over};
 use exh_stream::Output;
+use exh_text::Listener;
 use std::alloc::Global;
 use std::io::{Read, Write};
 

@@ -1,7 +1,7 @@
 //! What standard error shows of a wrong command line whose words have control characters.
 
 use exh_command::{CliFault, job_of};
-use exh_notes::Escaped;
+use exh_text::Escaped;
 use std::alloc::{AllocError, Global};
 
 /// The fault of a wrong command line as it is shown: where words have control characters, that of the same words with

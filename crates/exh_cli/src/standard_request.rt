@@ -1,9 +1,9 @@
 //! The run of an everyday command over the program's standard output.
 
-use exh_job::Status;
-use exh_notes::ReasonWriter;
+use exh_everyday::Status;
 use exh_request::Request;
 use exh_stream::Output;
+use exh_text::ReasonWriter;
 use std::cell::Cell;
 use std::io;
 

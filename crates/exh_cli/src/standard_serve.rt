@@ -1,9 +1,9 @@
 //! The run of a script over the program's standard streams.
-ghost use Rattle.exh_job.specs.JobPath.{SavesAt};
+ghost use Rattle.exh_everyday.specs.JobPath.{SavesAt};
 
 use crate::serve_script::{ending_of, serve_script};
-use exh_job::{Ending, FileWards, HeldFile, INPUT, JobPath, opened_at, tell_reason, warn};
-use exh_notes::{Expect, Notes, ReasonReader};
+use exh_everyday::{Ending, FileWards, HeldFile, INPUT, JobPath, opened_at, tell_reason, warn};
+use exh_text::{Expect, Notes, ReasonReader};
 use std::cell::Cell;
 use std::io;
 

@@ -1,12 +1,12 @@
 //! The run of a storm over the program's standard streams.
-ghost use Rattle.exh_settings.specs.StormConfig.{IsStormConfig};
+ghost use Rattle.exh_page.specs.StormConfig.{IsStormConfig};
 
 use crate::storm_run::tell_storm;
 use crate::storm_watch::StormWatch;
+use exh_everyday::{Status, console};
 use exh_frames::MAKER;
-use exh_job::{Status, console};
 use exh_live::{OpenGate, StormFault, storm, storm_over};
-use exh_settings::StormConfig;
+use exh_page::StormConfig;
 use exh_stream::{Console, Output, StormMeter};
 use std::io;
 use std::io::Stderr;

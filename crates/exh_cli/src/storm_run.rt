@@ -4,7 +4,7 @@ ghost use Rattle.exh_stream.specs.Output.{SameWriter, held, pending, writer_fail
 ghost use Rattle.exh_cli.specs.StormRun.{EndsStorm, storm_line, storm_status};
 
 use arrayvec::ArrayVec;
-use exh_job::{Status, print_line};
+use exh_everyday::{Status, print_line};
 use exh_live::StormFault;
 use exh_stream::Output;
 use itoa::Buffer;

@@ -1,12 +1,12 @@
 //! What the program tells of itself on standard output.
 ghost use Rattle.std.specs.Prelude.{◌≡◌, [], IfOk, IsFalse, OnErr, string_bytes};
 ghost use Rattle.exh_stream.specs.Output.{SameWriter, held, pending, writer_failed};
-ghost use Rattle.exh_answer.specs.LastLine.{TellsLine};
-ghost use Rattle.exh_answer.specs.declared.status.Status.TheVariants.{Done};
+ghost use Rattle.exh_everyday.specs.LastLine.{TellsLine};
+ghost use Rattle.exh_everyday.specs.declared.Status.TheVariants.{Done};
 ghost use Rattle.exh_cli.specs.Telling.{TellsNoMemory};
 
-use exh_answer::{OUT_OF_MEMORY, Status, print_last, tell_line};
 use exh_command::{PROGRAM_VERSION, manual_text};
+use exh_everyday::{OUT_OF_MEMORY, Status, print_last, tell_line};
 use exh_stream::Output;
 use std::alloc::{AllocError, Global};
 use std::io;

@@ -3,7 +3,7 @@ use Rattle.std.proofs.Common.{◌≡◌, ◌≢◌, ℕ, List, [], ◌∷◌, �
 use Rattle.std.specs.Prelude.{MatchResult, IfOk, IfErr}
 use Rattle.std.proofs.lemmas.List.{take_at, drop_at, take-append-drop}
 use Rattle.sha2.specs.Sha256.{sha256}
-use Rattle.exh_prefix.specs.Version.{Version, Fits}
+use Rattle.exh_page.specs.Version.{Version, Fits}
 use Rattle.exh_page.specs.declared.page.Page.{Page}
 use Rattle.exh_codec.specs.declared.image_fault.ImageFault.{ImageFault}
 use Rattle.exh_codec.specs.declared.image_fault.ImageFault.TheVariants as faults

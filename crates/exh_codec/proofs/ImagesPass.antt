@@ -1,10 +1,10 @@
 -- The block that a page was laid out on passes the tests, and is that of this page alone.
 use Rattle.std.proofs.Common.{◌≡◌, ◌≢◌, ℕ, ◌≤◌, ◌^◌, ◌-◌, Bool, List, [], ◌∷◌, length, map, take, Option, None, Some, refl, sym, ap, ◌∙◌, subst, arith}
 use Rattle.std.specs.List.{AllByRecursion}
-use Rattle.exh_prefix.specs.Bits.{word_bits}
-use Rattle.exh_prefix.specs.Prefix.{Begins, HasPrefixUpTo, low_of}
-use Rattle.exh_prefix.specs.PrefixLemmas.{same_prefix, take-low_of-word, up_to-low_of}
-use Rattle.exh_prefix.specs.Version.{Version, Fits}
+use Rattle.exh_page.specs.Bits.{word_bits}
+use Rattle.exh_page.specs.Prefix.{Begins, HasPrefixUpTo, low_of}
+use Rattle.exh_page.specs.PrefixLemmas.{same_prefix, take-low_of-word, up_to-low_of}
+use Rattle.exh_page.specs.Version.{Version, Fits}
 use Rattle.exh_page.specs.declared.page.Page.{Page}
 use Rattle.exh_page.specs.declared.page.Page.TheVariants.{Live, Forward}
 use Rattle.exh_page.specs.declared.record.Record.{Record}

@@ -4,10 +4,10 @@ use Rattle.std.specs.Prelude.{IfSome}
 use Rattle.std.specs.List.{flat_map}
 use Rattle.std.proofs.lemmas.Nat.{pow_pos}
 use Rattle.std.proofs.lemmas.List.{take-append-drop, drop_at, length-append, length-map}
-use Rattle.exh_prefix.specs.Bits.{number_of, word_bits}
-use Rattle.exh_prefix.specs.Prefix.{low_of}
-use Rattle.exh_prefix.specs.PrefixLemmas.{low_of-lt, low_of-places, low_of-up_to, length-up_to}
-use Rattle.exh_prefix.specs.Version.{Version, Fits}
+use Rattle.exh_page.specs.Bits.{number_of, word_bits}
+use Rattle.exh_page.specs.Prefix.{low_of}
+use Rattle.exh_page.specs.PrefixLemmas.{low_of-lt, low_of-places, low_of-up_to, length-up_to}
+use Rattle.exh_page.specs.Version.{Version, Fits}
 use Rattle.exh_page.specs.declared.page.Page.{Page}
 use Rattle.exh_page.specs.declared.page.Page.TheVariants.{Live, Forward}
 use Rattle.exh_page.specs.Page.{records_of}

@@ -5,11 +5,11 @@ use Rattle.std.proofs.lemmas.List.{length-drop, length-replicate, drop-drop, dro
 use Rattle.std.proofs.lemmas.Nat.{pow-add}
 use Rattle.byteorder.specs.Endian.{big_bytes, big_from, big_number}
 use Rattle.byteorder.specs.Numbers.{big_from-cons, length-bytes_high_first}
-use Rattle.exh_prefix.specs.PrefixByteLemmas.{power_of_bytes, drop-high_bytes, bytes_of_multiple}
-use Rattle.exh_prefix.specs.declared.version.Version.{Version as KnownVersion}
-use Rattle.exh_prefix.specs.Version.{Version, Fits}
-use Rattle.exh_prefix.specs.Layout.{layout}
-use Rattle.exh_prefix.specs.LayoutLemmas.{layout_fits, fits_wider}
+use Rattle.exh_page.specs.PrefixByteLemmas.{power_of_bytes, drop-high_bytes, bytes_of_multiple}
+use Rattle.exh_page.specs.declared.Version.{Version as KnownVersion}
+use Rattle.exh_page.specs.Version.{Version, Fits}
+use Rattle.exh_page.specs.Layout.{layout}
+use Rattle.exh_page.specs.LayoutLemmas.{layout_fits, fits_wider}
 use Rattle.exh_codec.specs.declared.head.Head.{Head}
 use Rattle.exh_codec.specs.Block.{AreZero}
 use Rattle.exh_codec.specs.Head.{head_bytes}

@@ -4,11 +4,11 @@ use Rattle.std.specs.List.{flat_map}
 use Rattle.std.proofs.lemmas.Bool.{eq-eqb, eqb-true}
 use Rattle.std.proofs.lemmas.List.{take_at, drop_at, drop-drop}
 use Rattle.byteorder.specs.Endian.{big_number}
-use Rattle.exh_prefix.specs.declared.prefix.TheConstants.{LIMIT}
-use Rattle.exh_prefix.specs.Bits.{word_bits}
-use Rattle.exh_prefix.specs.Prefix.{low_of, HasPrefix}
-use Rattle.exh_prefix.specs.PrefixLemmas.{take-low_of, take-low_of-word, HasPrefix-low_of}
-use Rattle.exh_prefix.specs.Version.{Version, Fits}
+use Rattle.exh_page.specs.PrefixLimits.{LIMIT}
+use Rattle.exh_page.specs.Bits.{word_bits}
+use Rattle.exh_page.specs.Prefix.{low_of, HasPrefix}
+use Rattle.exh_page.specs.PrefixLemmas.{take-low_of, take-low_of-word, HasPrefix-low_of}
+use Rattle.exh_page.specs.Version.{Version, Fits}
 use Rattle.exh_page.specs.declared.page.Page.{Page}
 use Rattle.exh_page.specs.declared.page.Page.TheVariants.{Live, Forward}
 use Rattle.exh_page.specs.declared.page_head.PageHead.TheVariants.{Live as LiveHead, Forward as ForwardHead}

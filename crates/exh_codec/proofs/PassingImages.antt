@@ -3,9 +3,9 @@ use Rattle.std.proofs.Common.{◌≡◌, ◌≢◌, ◌^◌, ◌-◌, ℕ, List,
 use Rattle.std.specs.List.{AllByRecursion}
 use Rattle.std.proofs.lemmas.Bool.{cases_eq}
 use Rattle.byteorder.specs.Endian.{big_number}
-use Rattle.exh_prefix.specs.Bits.{word_bits}
-use Rattle.exh_prefix.specs.Prefix.{HasPrefixUpTo}
-use Rattle.exh_prefix.specs.Version.{Version, Fits}
+use Rattle.exh_page.specs.Bits.{word_bits}
+use Rattle.exh_page.specs.Prefix.{HasPrefixUpTo}
+use Rattle.exh_page.specs.Version.{Version, Fits}
 use Rattle.exh_page.specs.declared.page.Page.{Page}
 use Rattle.exh_page.specs.declared.page.Page.TheVariants as pages
 use Rattle.exh_codec.specs.declared.head.Head.{Head}

@@ -3,10 +3,10 @@ use Rattle.std.proofs.Common.{◌≡◌, ℕ, ◌+◌, ◌^◌, ◌-◌, ◌<◌
 use Rattle.std.specs.List.{AllByRecursion, flat_map}
 use Rattle.std.proofs.lemmas.List.{take-append-drop, take-take, drop-take, length-append, length-take-le, length-map, nil_from_length}
 use Rattle.byteorder.specs.Numbers.{big_from-lt}
-use Rattle.exh_prefix.specs.Bits.{word_bits}
-use Rattle.exh_prefix.specs.Prefix.{Begins, HasPrefixUpTo, low_of}
-use Rattle.exh_prefix.specs.PrefixLemmas.{low_of-up_to, length-up_to}
-use Rattle.exh_prefix.specs.Version.{Version, Fits}
+use Rattle.exh_page.specs.Bits.{word_bits}
+use Rattle.exh_page.specs.Prefix.{Begins, HasPrefixUpTo, low_of}
+use Rattle.exh_page.specs.PrefixLemmas.{low_of-up_to, length-up_to}
+use Rattle.exh_page.specs.Version.{Version, Fits}
 use Rattle.exh_page.specs.declared.page.Page.{Page}
 use Rattle.exh_page.specs.declared.page.Page.TheVariants as pages
 use Rattle.exh_page.specs.Page.{records_of}

@@ -14,7 +14,7 @@ use Rattle.exh_page.specs.KeyMap.{pair_of}
 use Rattle.exh_codec.specs.Cells.{record_borrowed, Pair, IsSizedPair, pair_in}
 use Rattle.exh_codec.specs.declared.cell.Cell.{Cell}
 use Rattle.exh_codec.specs.ImageTests.{record_of}
-use Rattle.exh_prefix.specs.PrefixListLemmas.{AllByRecursion-push, AllByRecursion-append_right}
+use Rattle.exh_page.specs.PrefixListLemmas.{AllByRecursion-push, AllByRecursion-append_right}
 
 abbrev Comes : Record → Record → Type 0
 Comes one other = place_cmp (place_of one) (place_of other) ≡ Less

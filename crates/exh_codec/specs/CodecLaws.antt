@@ -1,7 +1,7 @@
 -- Laws of images, for the crates above: in every version of the page file, or in each whose bytes are room for its limit and fit into eight.
 use Rattle.std.specs.Prelude.{◌≡◌, ◌<◌, ℕ, ◌↔◌, List, length, slice_index}
 use Rattle.std.specs.List.{AllByRecursion}
-use Rattle.exh_prefix.specs.Version.{Version, Fits}
+use Rattle.exh_page.specs.Version.{Version, Fits}
 use Rattle.exh_page.specs.declared.page.Page.{Page}
 use Rattle.exh_codec.specs.declared.block.TheConstants.{BLOCK_LEN}
 use Rattle.exh_codec.specs.Block.{IsSealed}

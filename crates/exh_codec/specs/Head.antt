@@ -1,7 +1,7 @@
 -- The first bytes of an image, which say all of a page but its records.
 use Rattle.std.specs.Prelude.{◌≡◌, ℕ, ◌-◌, ◌^◌, List, ◌∷◌, ◌++◌, length, drop, slice_index, Option, None, Some}
 use Rattle.byteorder.specs.Endian.{big_bytes, big_number}
-use Rattle.exh_prefix.specs.Prefix.{low_of}
+use Rattle.exh_page.specs.Prefix.{low_of}
 use Rattle.exh_page.specs.declared.page.Page.{Page}
 use Rattle.exh_page.specs.declared.page.Page.TheVariants as pages
 use Rattle.exh_page.specs.declared.page_head.PageHead.{PageHead}

@@ -1,7 +1,7 @@
 -- Where all tests are passed, none is the first that fails.
 use Rattle.std.proofs.Common.{List, ◌∷◌, subst}
 use Rattle.std.specs.List.{AllByRecursion}
-use Rattle.exh_prefix.specs.PrefixListLemmas.{AllByRecursion-append_right}
+use Rattle.exh_page.specs.PrefixListLemmas.{AllByRecursion-append_right}
 use Rattle.exh_codec.specs.declared.image_fault.ImageFault.{ImageFault}
 use Rattle.exh_codec.specs.ImageTests.{IsFirst}
 

@@ -2,9 +2,9 @@
 use Rattle.std.specs.Prelude.{◌≡◌, ◌≢◌, ⊤, ℕ, ◌+◌, ◌≤◌, List, [], ◌∷◌, ◌++◌, map, take, drop, slice_index, slice_range}
 use Rattle.std.specs.List.{AllByRecursion}
 use Rattle.byteorder.specs.Endian.{big_number}
-use Rattle.exh_prefix.specs.Bits.{word_bits}
-use Rattle.exh_prefix.specs.Prefix.{Begins, HasPrefixUpTo}
-use Rattle.exh_prefix.specs.Version.{Version, field_low}
+use Rattle.exh_page.specs.Bits.{word_bits}
+use Rattle.exh_page.specs.Prefix.{Begins, HasPrefixUpTo}
+use Rattle.exh_page.specs.Version.{Version, field_low}
 use Rattle.exh_page.specs.declared.page.TheConstants.{CAP_LIMIT}
 use Rattle.exh_page.specs.declared.record.Record.{Record}
 use Rattle.exh_page.specs.Records.{IsRising}

@@ -1,3 +1,10 @@
+pub use Rattle.exh_page.specs.Halves
+pub use Rattle.exh_page.specs.Lookup
+pub use Rattle.exh_page.specs.Page
+pub use Rattle.exh_page.specs.PageHead
+pub use Rattle.exh_page.specs.PageLimits
+pub use Rattle.exh_page.specs.Records
+pub use Rattle.exh_page.specs.Search
 pub mod Block
 pub mod ImageFault
 pub mod Head

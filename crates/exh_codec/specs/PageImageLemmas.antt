@@ -1,6 +1,6 @@
 -- Pages that have an image have few records.
 use Rattle.std.proofs.Common.{ℕ, ◌≤◌, List, length, arith}
-use Rattle.exh_prefix.specs.Version.{Version}
+use Rattle.exh_page.specs.Version.{Version}
 use Rattle.exh_page.specs.declared.page.Page.{Page}
 use Rattle.exh_page.specs.declared.page.Page.TheVariants.{Live, Forward}
 use Rattle.exh_page.specs.Page.{records_of}

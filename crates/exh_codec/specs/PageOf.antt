@@ -1,8 +1,8 @@
 -- The page that a block is read as, whatever block it is.
 use Rattle.std.specs.Prelude.{ℕ, zero, suc, ◌+◌, ◌-◌, ◌^◌, nat_eq, cond, List, [], ◌∷◌, length, map, take, drop, slice_index, Option, None, Some}
 use Rattle.byteorder.specs.Endian.{big_number}
-use Rattle.exh_prefix.specs.Bits.{word_bits}
-use Rattle.exh_prefix.specs.Version.{Version}
+use Rattle.exh_page.specs.Bits.{word_bits}
+use Rattle.exh_page.specs.Version.{Version}
 use Rattle.exh_page.specs.declared.page.Page.{Page}
 use Rattle.exh_page.specs.declared.page.Page.TheVariants as pages
 use Rattle.exh_codec.specs.declared.block.TheConstants.{CONTENT_LEN}

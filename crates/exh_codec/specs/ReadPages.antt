@@ -1,9 +1,9 @@
 -- What a head and the pairs of an image are read as.
 use Rattle.std.specs.Prelude.{◌≡◌, ◌≢◌, ⊤, ℕ, ◌-◌, ◌^◌, List, Option, Some, Result, Ok, Err, map, take}
 use Rattle.std.specs.List.{AllByRecursion}
-use Rattle.exh_prefix.specs.Bits.{word_bits}
-use Rattle.exh_prefix.specs.Prefix.{Begins, HasPrefixUpTo}
-use Rattle.exh_prefix.specs.Version.{Version}
+use Rattle.exh_page.specs.Bits.{word_bits}
+use Rattle.exh_page.specs.Prefix.{Begins, HasPrefixUpTo}
+use Rattle.exh_page.specs.Version.{Version}
 use Rattle.exh_page.specs.declared.page.Page.{Page}
 use Rattle.exh_page.specs.declared.page.Page.TheVariants.{Live, Forward}
 use Rattle.exh_page.specs.Records.{IsRising}

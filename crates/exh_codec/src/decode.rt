@@ -1,8 +1,8 @@
 ghost use Rattle.std.specs.Prelude.{◌≡◌, ◌≢◌, ◌↔◌, ℕ, List, Some, IsTrue, MatchResult, IfOk, IfErr};
 ghost use Rattle.exh_codec.specs.Block.{AreZero};
-ghost use Rattle.exh_prefix.specs.declared.version.Version.{Version as KnownVersion};
-ghost use Rattle.exh_prefix.specs.Layout.{layout, written_version};
-ghost use Rattle.exh_prefix.specs.Version.{first_version};
+ghost use Rattle.exh_page.specs.declared.Version.{Version as KnownVersion};
+ghost use Rattle.exh_page.specs.Layout.{layout, written_version};
+ghost use Rattle.exh_page.specs.Version.{first_version};
 ghost use Rattle.exh_page.specs.declared.page.Page.{Page};
 ghost use Rattle.exh_page.specs.PageHead.{head_of};
 ghost use Rattle.exh_codec.specs.PageImage.{IsImage, IsLaidOut};
@@ -15,9 +15,7 @@ use crate::cell::cells_of;
 use crate::head::{HEAD_LEN, Head, LOW_START};
 use crate::kind::Kind;
 use crate::pages::{forward_page, live_page, right_link};
-use exh_keyer::Keyer;
-use exh_page::{Page, PageHead};
-use exh_prefix::{Prefix, Version, WRITTEN};
+use exh_page::{Keyer, Page, PageHead, Prefix, Version, WRITTEN};
 use std::alloc::Global;
 
 /// The page that a block is the image of under a keyer, in the version of the page file that is

@@ -1,6 +1,6 @@
 ghost use Rattle.std.specs.Prelude.{◌≡◌, ◌≤◌, ◌*◌, ◌++◌, length, map, take, drop, replicate};
 ghost use Rattle.std.specs.List.{AllByRecursion, flat_map};
-ghost use Rattle.exh_prefix.specs.Version.{Version};
+ghost use Rattle.exh_page.specs.Version.{Version};
 ghost use Rattle.exh_page.specs.declared.page.TheConstants.{CAP_LIMIT};
 ghost use Rattle.exh_page.specs.Page.{records_of, IsWellFormed};
 ghost use Rattle.exh_codec.specs.declared.block.TheConstants.{BLOCK_LEN, CONTENT_LEN};
@@ -13,8 +13,7 @@ ghost use Rattle.exh_page.specs.PageHead.{count_in};
 
 use crate::block::{BLOCK_LEN, CONTENT_LEN, seal};
 use crate::head::{HEAD_LEN, Head};
-use exh_keyer::Keyer;
-use exh_page::{KEY_LIMIT, Page, PageHead, Record, Records, VALUE_LIMIT};
+use exh_page::{KEY_LIMIT, Keyer, Page, PageHead, Record, Records, VALUE_LIMIT};
 
 /// The greatest length of a record in an image, in bytes.
 const RECORD_LEN: usize = 2 + KEY_LIMIT + VALUE_LIMIT;

@@ -2,8 +2,7 @@ ghost use Rattle.std.specs.Prelude.{◌≡◌, ℕ, List, length, slice_index, I
 
 use crate::kind::Kind;
 use byteorder::{BigEndian, ByteOrder};
-use exh_page::{Page, PageHead};
-use exh_prefix::PageNo;
+use exh_page::{Page, PageHead, PageNo};
 
 /// How many bytes of an image stand before its records.
 pub const HEAD_LEN: usize = 16;
@@ -33,7 +32,7 @@ impl Head {
     ghost use Rattle.exh_codec.specs.declared.head.TheConstants.{HEAD_LEN};
     ghost use Rattle.exh_codec.specs.declared.kind.Kind.{Kind};
     ghost use Rattle.exh_codec.specs.Head.{page_kind_byte, head_of, head_bytes, head_with, IsReadHead};
-    ghost use Rattle.exh_prefix.specs.declared.prefix.TheConstants.{LIMIT};
+    ghost use Rattle.exh_page.specs.PrefixLimits.{LIMIT};
     ghost use Rattle.exh_page.specs.declared.page.TheConstants.{CAP_LIMIT};
     ghost use Rattle.exh_page.specs.Page.{records_of};
     ghost use Rattle.exh_page.specs.PageHead.{count_in};

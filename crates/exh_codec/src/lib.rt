@@ -9,10 +9,12 @@ pub use decode::{
     are_zero, decode_content, decode_head, decode_page, decode_page_of, decode_page_v1,
 };
 pub use encode::{encode_page, lay_out, lay_over, put_head};
+pub use exh_page::{Key, Keyer, Lookup, Page, PageHead, PageList, PageNo, Prefix, Spot, Value};
 pub use head::HEAD_LEN;
 pub use image_fault::ImageFault;
 pub use laws::{
-    blocks_are_read, images_are_blocks, images_are_sealed, images_pass, one_image, one_page,
+    blocks_are_read, greatest_pages_fit, images_are_blocks, images_are_sealed, images_pass,
+    one_image, one_page,
 };
 pub use read_pages::ReadPages;
 

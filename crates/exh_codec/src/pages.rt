@@ -1,7 +1,7 @@
 ghost use Rattle.std.specs.Prelude.{◌≡◌, ◌≢◌, ◌^◌, ◌≤◌, ◌-◌, ◌↔◌, ℕ, List, length, map, Some, IsTrue, IfSome, IfNone, IfOk};
 ghost use Rattle.std.specs.List.{AllByRecursion};
-ghost use Rattle.exh_prefix.specs.Prefix.{Begins};
-ghost use Rattle.exh_prefix.specs.Layout.{layout};
+ghost use Rattle.exh_page.specs.Prefix.{Begins};
+ghost use Rattle.exh_page.specs.Layout.{layout};
 ghost use Rattle.exh_page.specs.Records.{IsRising};
 ghost use Rattle.exh_page.specs.KeyMap.{pair_of};
 ghost use Rattle.exh_codec.specs.Cells.{record_borrowed, IsSizedPair, pair_in};
@@ -14,9 +14,7 @@ use crate::borrowed_record::{BorrowedRecord, cmp_places, to_record};
 use crate::cell::Cell;
 use crate::head::{Head, NO_LINK};
 use arrayvec::ArrayVec;
-use exh_keyer::Keyer;
-use exh_page::{CAP_LIMIT, Page, Records};
-use exh_prefix::{PageNo, Prefix, Version};
+use exh_page::{CAP_LIMIT, Keyer, Page, PageNo, Prefix, Records, Version};
 use std::alloc::{AllocError, Global};
 use std::cmp::Ordering;
 

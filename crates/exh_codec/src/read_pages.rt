@@ -4,8 +4,7 @@ ghost use Rattle.exh_page.specs.Page.{IsWellFormed};
 ghost use Rattle.exh_codec.specs.PageImage.{IsBlockOf};
 
 use crate::BLOCK_LEN;
-use exh_keyer::Keyer;
-use exh_page::{Page, PageList};
+use exh_page::{Keyer, Page, PageList};
 use std::alloc::{AllocError, Global};
 
 /// What the pages of a ward are read into, in the order of their numbers, under keyers of a type.

@@ -4,11 +4,12 @@ use Rattle.std.specs.Str.{bytes_eq}
 use Rattle.exh_page.specs.declared.page.TheConstants.{CAP_LIMIT}
 use Rattle.exh_prefix.specs.declared.prefix.TheConstants.{WARD_BITS_LIMIT}
 use Rattle.exh_keyer.specs.declared.any_keyer.AnyKeyer.{AnyKeyer}
-use Rattle.exh_settings.specs.Keyers.{keyer_named}
+use Rattle.exh_page.specs.Keyers.{keyer_named}
 use Rattle.exh_text.specs.Numbers.{number_spelled}
-use Rattle.exh_settings.specs.StormConfig.{IsStormConfig}
-use Rattle.exh_settings.specs.declared.storm_config.StormConfig.{StormConfig}
-use Rattle.exh_settings.specs.declared.storm_config.TheConstants.{CALLERS_LIMIT, CALLS_LIMIT, COPIES_LIMIT}
+use Rattle.exh_page.specs.StormConfig.{IsStormConfig}
+use Rattle.exh_page.specs.declared.storm_config.StormConfig.{StormConfig}
+use Rattle.exh_page.specs.declared.storm_config.TheConstants.{CALLERS_LIMIT, CALLS_LIMIT, COPIES_LIMIT}
+use Rattle.exh_request.specs.declared.command_words.TheConstants.{BACKUP, COMPACT, CREATE, DEL, EXPORT, GET, IMPORT, PUT, SALVAGE, STATS, SWAP}
 use Rattle.exh_command.specs.Words.{Use, flags_and_path, new_path_name, path_name, path_named, uses_and_path, uses_and_two_paths, uses_named, option_given, word_perhaps}
 use Rattle.exh_command.specs.declared.job.Job.{Job}
 use Rattle.exh_command.specs.declared.load_way.LoadWay.{LoadWay}
@@ -256,10 +257,10 @@ pairing_of path texts =
 abbrev pub is_command_name : List ℕ → Bool
 is_command_name word =
     bytes_eq word (codes "serve") || bytes_eq word (codes "check") || bytes_eq word (codes "dump") || bytes_eq word (codes "load")
-    || bytes_eq word (codes "storm") || bytes_eq word (codes "get") || bytes_eq word (codes "put") || bytes_eq word (codes "del")
-    || bytes_eq word (codes "swap") || bytes_eq word (codes "pairs") || bytes_eq word (codes "convert") || bytes_eq word (codes "create")
-    || bytes_eq word (codes "backup") || bytes_eq word (codes "import") || bytes_eq word (codes "export") || bytes_eq word (codes "compact")
-    || bytes_eq word (codes "stats") || bytes_eq word (codes "salvage") || bytes_eq word (codes "version") || bytes_eq word (codes "manual")
+    || bytes_eq word (codes "storm") || bytes_eq word GET.now || bytes_eq word PUT.now || bytes_eq word DEL.now
+    || bytes_eq word SWAP.now || bytes_eq word (codes "pairs") || bytes_eq word (codes "convert") || bytes_eq word CREATE.now
+    || bytes_eq word BACKUP.now || bytes_eq word IMPORT.now || bytes_eq word EXPORT.now || bytes_eq word COMPACT.now
+    || bytes_eq word STATS.now || bytes_eq word SALVAGE.now || bytes_eq word (codes "version") || bytes_eq word (codes "manual")
 
 abbrev pub manual_of : Option (List ℕ) → Option Named
 manual_of None = Some (TellingManual None)

@@ -166,9 +166,9 @@ fn create<'a>(alloc: Global) -> Result<Command<'a>, AllocError> {
     let command = bare_command(
         alloc,
         CREATE,
-        exh_help::create::ABOUT,
-        exh_help::create::USAGE,
-        exh_help::create::TEXT,
+        crate::create::ABOUT,
+        crate::create::USAGE,
+        crate::create::TEXT,
     );
     with_new_settings(alloc, command)?.arg(wait(alloc))
 }
@@ -196,9 +196,9 @@ fn get<'a>(alloc: Global) -> Result<Command<'a>, AllocError> {
     bare_command(
         alloc,
         GET,
-        exh_help::get::ABOUT,
-        exh_help::get::USAGE,
-        exh_help::get::TEXT,
+        crate::get::ABOUT,
+        crate::get::USAGE,
+        crate::get::TEXT,
     )
     .arg(from(alloc))?
     .arg(hex(alloc))?
@@ -211,9 +211,9 @@ fn put<'a>(alloc: Global) -> Result<Command<'a>, AllocError> {
     bare_command(
         alloc,
         PUT,
-        exh_help::put::ABOUT,
-        exh_help::put::USAGE,
-        exh_help::put::TEXT,
+        crate::put::ABOUT,
+        crate::put::USAGE,
+        crate::put::TEXT,
     )
     .arg(flag(alloc, NEW_FLAG, "Only where the key isn't there"))?
     .arg(flag(alloc, REPLACE, "Only where the key is there"))?
@@ -227,9 +227,9 @@ fn del<'a>(alloc: Global) -> Result<Command<'a>, AllocError> {
     bare_command(
         alloc,
         DEL,
-        exh_help::del::ABOUT,
-        exh_help::del::USAGE,
-        exh_help::del::TEXT,
+        crate::del::ABOUT,
+        crate::del::USAGE,
+        crate::del::TEXT,
     )
     .arg(from(alloc))?
     .arg(hex(alloc))?
@@ -241,9 +241,9 @@ fn swap<'a>(alloc: Global) -> Result<Command<'a>, AllocError> {
     bare_command(
         alloc,
         SWAP,
-        exh_help::swap::ABOUT,
-        exh_help::swap::USAGE,
-        exh_help::swap::TEXT,
+        crate::swap::ABOUT,
+        crate::swap::USAGE,
+        crate::swap::TEXT,
     )
     .arg(hex(alloc))?
     .arg(wait(alloc))
@@ -254,9 +254,9 @@ fn backup<'a>(alloc: Global) -> Result<Command<'a>, AllocError> {
     bare_command(
         alloc,
         BACKUP,
-        exh_help::backup::ABOUT,
-        exh_help::backup::USAGE,
-        exh_help::backup::TEXT,
+        crate::backup::ABOUT,
+        crate::backup::USAGE,
+        crate::backup::TEXT,
     )
     .arg(wait(alloc))
 }
@@ -266,9 +266,9 @@ fn import<'a>(alloc: Global) -> Result<Command<'a>, AllocError> {
     let command = bare_command(
         alloc,
         IMPORT,
-        exh_help::import::ABOUT,
-        exh_help::import::USAGE,
-        exh_help::import::TEXT,
+        crate::import::ABOUT,
+        crate::import::USAGE,
+        crate::import::TEXT,
     )
     .arg(format(alloc))?
     .arg(flag(alloc, HEADER, "The first record of csv names the columns"))?
@@ -301,9 +301,9 @@ fn export<'a>(alloc: Global) -> Result<Command<'a>, AllocError> {
     bare_command(
         alloc,
         EXPORT,
-        exh_help::export::ABOUT,
-        exh_help::export::USAGE,
-        exh_help::export::TEXT,
+        crate::export::ABOUT,
+        crate::export::USAGE,
+        crate::export::TEXT,
     )
     .arg(format(alloc))?
     .arg(hex(alloc))?
@@ -316,9 +316,9 @@ fn compact<'a>(alloc: Global) -> Result<Command<'a>, AllocError> {
     bare_command(
         alloc,
         COMPACT,
-        exh_help::compact::ABOUT,
-        exh_help::compact::USAGE,
-        exh_help::compact::TEXT,
+        crate::compact::ABOUT,
+        crate::compact::USAGE,
+        crate::compact::TEXT,
     )
     .arg(option(
         alloc,
@@ -346,9 +346,9 @@ fn stats<'a>(alloc: Global) -> Result<Command<'a>, AllocError> {
     bare_command(
         alloc,
         STATS,
-        exh_help::stats::ABOUT,
-        exh_help::stats::USAGE,
-        exh_help::stats::TEXT,
+        crate::stats::ABOUT,
+        crate::stats::USAGE,
+        crate::stats::TEXT,
     )
     .arg(flag(alloc, JSON, "One JSON object"))?
     .arg(wait(alloc))
@@ -359,9 +359,9 @@ fn salvage<'a>(alloc: Global) -> Result<Command<'a>, AllocError> {
     bare_command(
         alloc,
         SALVAGE,
-        exh_help::salvage::ABOUT,
-        exh_help::salvage::USAGE,
-        exh_help::salvage::TEXT,
+        crate::salvage::ABOUT,
+        crate::salvage::USAGE,
+        crate::salvage::TEXT,
     )
     .arg(format(alloc))?
     .arg(hex(alloc))?

@@ -1,37 +1,8 @@
 //! The words of the command line: commands, options, flags, and what help calls other words.
 
-/// The command that makes a page file without pairs.
-pub(crate) const CREATE: &str = "create";
-
-/// The command that prints the value of a key.
-pub(crate) const GET: &str = "get";
-
-/// The command that gives a key a value.
-pub(crate) const PUT: &str = "put";
-
-/// The command that takes a key out.
-pub(crate) const DEL: &str = "del";
-
-/// The command that gives a key another value, where it has the one that is named.
-pub(crate) const SWAP: &str = "swap";
-
-/// The command that copies a page file.
-pub(crate) const BACKUP: &str = "backup";
-
-/// The command that puts the pairs of a text into a page file.
-pub(crate) const IMPORT: &str = "import";
-
-/// The command that prints all pairs.
-pub(crate) const EXPORT: &str = "export";
-
-/// The command that makes a page file anew.
-pub(crate) const COMPACT: &str = "compact";
-
-/// The command that counts what a page file has.
-pub(crate) const STATS: &str = "stats";
-
-/// The command that prints the pairs of the blocks that are live pages.
-pub(crate) const SALVAGE: &str = "salvage";
+pub(crate) use exh_request::{
+    BACKUP, COMPACT, CREATE, DEL, EXPORT, GET, IMPORT, PUT, SALVAGE, STATS, SWAP,
+};
 
 /// The command that says whether a file is a legal page file.
 pub(crate) const CHECK: &str = "check";

@@ -47,10 +47,10 @@ pub(crate) fn bare_program<'a>(alloc: Global) -> Result<Command<'a>, AllocError>
     ensures { IfOk result (λ command. app_of command ≡ bare_program) }
 {
     Command::new(alloc, PROGRAM)
-        .about(exh_help::program::ABOUT)
+        .about(crate::program::ABOUT)
         .version(PROGRAM_VERSION)
-        .after_help(exh_help::program::TEXT)
-        .override_usage(exh_help::program::USAGE)
+        .after_help(crate::program::TEXT)
+        .override_usage(crate::program::USAGE)
         .subcommand_required(true)
         .arg_required_else_help(true)
         .bin_name(PROGRAM)
@@ -64,9 +64,9 @@ pub(crate) fn serve<'a>(alloc: Global) -> Result<Command<'a>, AllocError>
     bare_command(
         alloc,
         SERVE,
-        exh_help::serve::ABOUT,
-        exh_help::serve::USAGE,
-        exh_help::serve::TEXT,
+        crate::serve::ABOUT,
+        crate::serve::USAGE,
+        crate::serve::TEXT,
     )
     .arg(option(
         alloc,
@@ -90,9 +90,9 @@ pub(crate) fn check<'a>(alloc: Global) -> Result<Command<'a>, AllocError>
     path_command(
         alloc,
         CHECK,
-        exh_help::check::ABOUT,
-        exh_help::check::USAGE,
-        exh_help::check::TEXT,
+        crate::check::ABOUT,
+        crate::check::USAGE,
+        crate::check::TEXT,
     )
 }
 
@@ -104,9 +104,9 @@ pub(crate) fn dump<'a>(alloc: Global) -> Result<Command<'a>, AllocError>
     path_command(
         alloc,
         DUMP,
-        exh_help::dump::ABOUT,
-        exh_help::dump::USAGE,
-        exh_help::dump::TEXT,
+        crate::dump::ABOUT,
+        crate::dump::USAGE,
+        crate::dump::TEXT,
     )
 }
 
@@ -118,9 +118,9 @@ pub(crate) fn load<'a>(alloc: Global) -> Result<Command<'a>, AllocError>
     path_command(
         alloc,
         LOAD,
-        exh_help::load::ABOUT,
-        exh_help::load::USAGE,
-        exh_help::load::TEXT,
+        crate::load::ABOUT,
+        crate::load::USAGE,
+        crate::load::TEXT,
     )?
     .arg(flag(alloc, LONG, "Takes a text of any length, line by line"))?
     .arg(flag(alloc, INTO, "The same, into the page file that is there"))
@@ -134,9 +134,9 @@ pub(crate) fn storm<'a>(alloc: Global) -> Result<Command<'a>, AllocError>
     bare_command(
         alloc,
         STORM,
-        exh_help::storm::ABOUT,
-        exh_help::storm::USAGE,
-        exh_help::storm::TEXT,
+        crate::storm::ABOUT,
+        crate::storm::USAGE,
+        crate::storm::TEXT,
     )
     .arg(option(
         alloc,
@@ -173,9 +173,9 @@ pub(crate) fn pairs<'a>(alloc: Global) -> Result<Command<'a>, AllocError>
     path_command(
         alloc,
         PAIRS,
-        exh_help::pairs::ABOUT,
-        exh_help::pairs::USAGE,
-        exh_help::pairs::TEXT,
+        crate::pairs::ABOUT,
+        crate::pairs::USAGE,
+        crate::pairs::TEXT,
     )?
     .arg(option(
         alloc,
@@ -205,9 +205,9 @@ pub(crate) fn convert<'a>(alloc: Global) -> Result<Command<'a>, AllocError>
     path_command(
         alloc,
         CONVERT,
-        exh_help::convert::ABOUT,
-        exh_help::convert::USAGE,
-        exh_help::convert::TEXT,
+        crate::convert::ABOUT,
+        crate::convert::USAGE,
+        crate::convert::TEXT,
     )?
     .arg(word(alloc, NEW))?
     .arg(option(
@@ -226,9 +226,9 @@ pub(crate) fn version<'a>(alloc: Global) -> Result<Command<'a>, AllocError>
     Ok(bare_command(
         alloc,
         VERSION,
-        exh_help::version::ABOUT,
-        exh_help::version::USAGE,
-        exh_help::version::TEXT,
+        crate::version::ABOUT,
+        crate::version::USAGE,
+        crate::version::TEXT,
     ))
 }
 
@@ -240,9 +240,9 @@ pub(crate) fn manual<'a>(alloc: Global) -> Result<Command<'a>, AllocError>
     bare_command(
         alloc,
         MANUAL,
-        exh_help::manual::ABOUT,
-        exh_help::manual::USAGE,
-        exh_help::manual::TEXT,
+        crate::manual::ABOUT,
+        crate::manual::USAGE,
+        crate::manual::TEXT,
     )
     .arg(word_perhaps(alloc, COMMAND))
 }

@@ -3,7 +3,7 @@ use Rattle.std.proofs.Common.{◌≡◌, ℕ, zero, suc, ◌+◌, ◌-◌, ◌*�
 use Rattle.std.proofs.lemmas.Bool.{cases_lt, cond-true, cond-false, and_from, and_right, le-leb, lt-leb}
 use Rattle.sqlite_wal.specs.Format.{part}
 use Rattle.sqlite_wal.specs.Recovery.{Pages, Replays, pages_after}
-use Rattle.exh_format.specs.FileTests.{block_at}
+use Rattle.exh_edits.specs.FileTests.{block_at}
 use Rattle.exh_commit.specs.FilePages.{StandsFor, bytes_in_page, bytes_of, pages_of}
 use Rattle.exh_commit.proofs.PageLemmas.{bytes_whole, some_not_none, take_split}
 use mathlib.Core.Path.{fun_ext}

@@ -8,7 +8,7 @@ use Rattle.sqlite_wal.specs.Reads.{AreClean}
 use Rattle.sqlite_wal.specs.Recovery.{Image}
 use Rattle.exh_edits.specs.declared.block_edit.BlockEdit.{BlockEdit}
 use Rattle.exh_edits.specs.BlockEdits.{with_edits}
-use Rattle.exh_direct.specs.declared.direct_fault.DirectFault.{DirectFault}
+use Rattle.exh_edits.specs.declared.DirectFault.{DirectFault}
 use Rattle.exh_commit.specs.declared.commit_fault.CommitFault.{CommitFault}
 use Rattle.exh_commit.specs.declared.commit_fault.CommitFault.TheVariants.{Place, NotSaved, MaybeSaved}
 use Rattle.exh_commit.specs.declared.change_fault.ChangeFault.{ChangeFault}

@@ -3,4 +3,5 @@ pub mod ChangeLemmas
 pub mod EditLemmas
 pub mod ImageLemmas
 pub mod KnownLemmas
+pub mod LookLemmas
 pub mod PageLemmas

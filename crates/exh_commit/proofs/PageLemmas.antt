@@ -5,7 +5,7 @@ use Rattle.std.proofs.Math.Seq.{take-append-add}
 use Rattle.std.proofs.Math.ListN.{drop_of_length-le}
 use Rattle.std.proofs.lemmas.Bool.{cases_lt, cond-true, cond-false, and_from, and_right, le-leb, lt-leb}
 use Rattle.sqlite_wal.specs.Recovery.{Pages}
-use Rattle.exh_format.specs.FileTests.{IsWhole, block_at}
+use Rattle.exh_edits.specs.FileTests.{IsWhole, block_at}
 use Rattle.exh_edits.specs.BlockEdits.{with_block}
 use Rattle.exh_commit.specs.FilePages.{bytes_in_page, bytes_of, pages_of}
 use mathlib.Core.Path.{fun_ext}

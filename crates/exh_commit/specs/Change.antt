@@ -1,7 +1,7 @@
 -- What a changer makes of a file, and what a fault of a change tells of it.
 use Rattle.std.specs.Prelude.{◌≡◌, ◌⊎◌, ◌/◌, ⊤, Bool, ℕ, List, length, IsTrue}
 use Rattle.exh_codec.specs.declared.block.TheConstants.{BLOCK_LEN}
-use Rattle.exh_direct.specs.declared.direct_fault.DirectFault.{DirectFault}
+use Rattle.exh_edits.specs.declared.DirectFault.{DirectFault}
 use Rattle.exh_edits.specs.declared.block_edit.BlockEdit.{BlockEdit}
 use Rattle.exh_edits.specs.BlockEdits.{with_edits}
 use Rattle.exh_commit.specs.declared.change_fault.ChangeFault.{ChangeFault}

@@ -5,7 +5,7 @@ use Rattle.sqlite_wal.specs.Files.{outcomes, seen_image}
 use Rattle.sqlite_wal.specs.Reads.{AreClean}
 use Rattle.sqlite_wal.specs.Recovery.{Image, Pages, Recovers, RecoversAs}
 use Rattle.exh_codec.specs.declared.block.TheConstants.{BLOCK_LEN}
-use Rattle.exh_format.specs.FileTests.{block_at}
+use Rattle.exh_edits.specs.FileTests.{block_at}
 
 -- ---- pages and bytes
 

@@ -1,5 +1,12 @@
+pub use Rattle.exh_edits.specs.BlockEdits
+pub use Rattle.exh_edits.specs.Comparison
+pub use Rattle.exh_edits.specs.EditLaws
+pub use Rattle.exh_edits.specs.EditLists
+pub use Rattle.exh_edits.specs.EditsInTurn
 pub mod FilePages
 pub mod PagedFile
 pub mod CommitFault
 pub mod Change
 pub mod AloneLaws
+pub mod LogLook
+pub mod SeenFiles

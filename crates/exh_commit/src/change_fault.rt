@@ -2,7 +2,7 @@ ghost use Rattle.std.specs.Prelude.{◌≡◌};
 ghost use Rattle.exh_commit.specs.declared.change_fault.ChangeFault.TheVariants.{Commit, Refused};
 
 use crate::CommitFault;
-use exh_direct::DirectFault;
+use exh_edits::DirectFault;
 use sqlite_pager::Error;
 use thiserror::Error as Fault;
 

@@ -1,9 +1,8 @@
 ghost use Rattle.std.specs.Prelude.{ℕ, List, IfErr, IfOk, IfSome};
-ghost use Rattle.exh_direct.specs.declared.direct_fault.DirectFault.{DirectFault as Fault};
+ghost use Rattle.exh_edits.specs.declared.DirectFault.{DirectFault as Fault};
 ghost use Rattle.exh_edits.specs.declared.block_edit.BlockEdit.{BlockEdit as Edit};
 
-use exh_direct::{Blocks, DirectFault};
-use exh_edits::BlockEdit;
+use exh_edits::{BlockEdit, Blocks, DirectFault};
 use std::alloc::Global;
 
 /// What is to be done with a file: from its blocks it makes edits of them, and an answer.

@@ -7,7 +7,7 @@ ghost use Rattle.exh_commit.specs.FilePages.{Leaves, LeavesAlone, StandsFor};
 ghost use Rattle.exh_commit.specs.PagedFile.{IsHonest, IsReady, bytes_in, files_in};
 
 use crate::asked::ask;
-use crate::{ChangeFault, Changer, PagedFile, Truthful, open};
+use crate::{ChangeFault, Changer, PagedFile, SeenFiles, Truthful, open};
 use sqlite_disk::Files;
 use sqlite_pager::Options;
 use std::alloc::Global;
@@ -51,14 +51,14 @@ impl<D: Truthful + Drop> PagedFile<D> {
     }
 }
 
-/// Opens a file with its log, whatever a crash left of them, commits the edits that a changer makes of it, moves them into
+/// Opens a file with its log, which was looked at, whatever a crash left of them, commits the edits that a changer makes of it, moves them into
 /// the file, and gives both back. It takes memory for the pages that are kept, as many as the options say, and for the edits.
 ///
 /// `Open`: the two couldn't be opened. `Refused`: the changer refused. `Commit`: the edits weren't committed, or may not have
 /// been, as the fault says. `LeftInLog`: they were committed, and stand in the log.
 pub fn change_file<D: Truthful + Drop, C: Changer>(
     alloc: Global,
-    files: Files<D>,
+    files: SeenFiles<D>,
     options: Options,
     changer: &C,
 ) -> (Result<C::Answer, ChangeFault>, Files<D>)

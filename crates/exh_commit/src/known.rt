@@ -4,7 +4,7 @@ ghost use Rattle.exh_commit.specs.PagedFile.{known_in};
 
 use crate::{PagedFile, Truthful};
 use exh_codec::BLOCK_LEN;
-use exh_direct::Blocks;
+use exh_edits::Blocks;
 use sqlite_pager::Error;
 use std::io;
 

@@ -8,9 +8,13 @@ pub use change_fault::ChangeFault;
 pub use changer::Changer;
 pub use changing::change_file;
 pub use commit_fault::CommitFault;
+pub use exh_edits::{BlockEdit, Blocks, Differing, DifferingFault, DirectFault, blocks_stand};
 pub use laws::files_alone_have_bytes;
+pub use log_fault::LogFault;
+pub use log_look::see_log;
 pub use opening::open;
 pub use paged_file::PagedFile;
+pub use seen_files::SeenFiles;
 pub use truthful::Truthful;
 
 mod asked;
@@ -21,10 +25,12 @@ mod changing;
 mod commit_fault;
 mod known;
 mod laws;
+mod log_fault;
+mod log_header;
+mod log_look;
 mod opening;
 mod paged_file;
 mod paging;
-#[cfg(test)]
-mod tests;
+mod seen_files;
 mod truthful;
 mod writing;

@@ -3,20 +3,20 @@ ghost use Rattle.sqlite_wal.specs.Files.{seen_image};
 ghost use Rattle.exh_commit.specs.FilePages.{Leaves, LeavesAsFound, StandsFor};
 ghost use Rattle.exh_commit.specs.PagedFile.{IsHonest, IsReady, bytes_in, files_in};
 
-use crate::PagedFile;
+use crate::{PagedFile, SeenFiles};
 use exh_codec::BLOCK_LEN;
 use sqlite_disk::{Disk, Files};
 use sqlite_pager::{Error, Options, PageSize, Pager};
 use std::alloc::Global;
 
-/// Opens a file with its log, and finds the blocks that they stand for, whatever a crash left of them. It takes memory for
+/// Opens a file with its log, which was looked at, and finds the blocks that they stand for, whatever a crash left of them. It takes memory for
 /// the pages that are kept, as many as the options say, and for what the log has.
 ///
 /// An error, with the files: `OutOfMemory`, a growth was refused; `Io`, a call of the disk failed; `Corrupt`, the two stand
 /// for no file of such blocks; `Full`, 32 bits don't number its blocks.
 pub fn open<D: Disk + Drop>(
     alloc: Global,
-    files: Files<D>,
+    files: SeenFiles<D>,
     options: Options,
 ) -> Result<PagedFile<D>, (Error, Files<D>)>
     requires log { IsTrue (D.Disk.is_usable files.log) }
@@ -31,7 +31,8 @@ pub fn open<D: Disk + Drop>(
     let Some(size) = PageSize::new(BLOCK_LEN) else {
         unreachable!();
     };
-    let mut pager = match Pager::new(alloc, files, size, options) {
+    let SeenFiles { log, db } = files;
+    let mut pager = match Pager::new(alloc, Files { log, db }, size, options) {
         Ok(pager) => pager,
         Err(failed) => return Err((Error::OutOfMemory, failed.value)),
     };

@@ -1,7 +1,7 @@
 //! What is done with a file that is open: its blocks are read, edits are committed and moved into the file, and it's closed.
 ghost use Rattle.std.specs.Prelude.{◌≡◌, ℕ, [], IsTrue, IfErr, OnOk, OnErr};
 ghost use Rattle.sqlite_wal.specs.State.{Keeps, StaysOrFails};
-ghost use Rattle.exh_format.specs.FileTests.{IsWhole, block_at};
+ghost use Rattle.exh_edits.specs.FileTests.{IsWhole, block_at};
 ghost use Rattle.exh_edits.specs.BlockEdits.{with_edits};
 ghost use Rattle.exh_edits.specs.EditsInTurn.{AreInTurn};
 ghost use Rattle.exh_commit.specs.CommitFault.{IsCause, IsUnsaved};

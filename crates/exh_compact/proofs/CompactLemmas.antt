@@ -2,11 +2,11 @@
 use Rattle.std.proofs.Common.{◌≡◌, ℕ, List, [], length, Result, Ok, Err, IfOk, ◌∙◌, ap, subst}
 use Rattle.exh_keyer.specs.declared.any_keyer.AnyKeyer.{AnyKeyer}
 use Rattle.exh_page.specs.KeyMap.{KeyMap}
-use Rattle.exh_settings.specs.declared.file_settings.FileSettings.{FileSettings}
-use Rattle.exh_file.specs.FileChange.{HasMap}
-use Rattle.exh_file.specs.Opened.{OpenedState}
-use Rattle.exh_map.specs.Pairs.{pairs_in}
-use Rattle.exh_map.specs.declared.store_error.StoreError.{StoreError}
+use Rattle.exh_page.specs.declared.file_settings.FileSettings.{FileSettings}
+use Rattle.exhash.specs.FileChange.{HasMap}
+use Rattle.exhash.specs.Opened.{OpenedState}
+use Rattle.exhash.specs.Pairs.{pairs_in}
+use Rattle.exhash.specs.declared.StoreError.{StoreError}
 use Rattle.exh_compact.specs.Compacted.{IsCompacted, IsFilled, full_keys}
 use Rattle.exh_compact.specs.declared.compacted.Compacted.{Compacted}
 use Rattle.exh_compact.specs.declared.compacted.Compacted.TheVariants.{Full, Wards}

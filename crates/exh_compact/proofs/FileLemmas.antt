@@ -13,8 +13,8 @@ use Rattle.exh_prefix.specs.PrefixListLemmas.{set_is}
 use Rattle.exh_page.specs.KeyMap.{KeyMap}
 use Rattle.exh_page.specs.declared.page.Page.{Page}
 use Rattle.exh_page.specs.declared.page.Page.TheVariants.{Live}
-use Rattle.exh_settings.specs.FileSettings.{AreInRange}
-use Rattle.exh_settings.specs.declared.file_settings.FileSettings.{FileSettings}
+use Rattle.exh_page.specs.FileSettings.{AreInRange}
+use Rattle.exh_page.specs.declared.file_settings.FileSettings.{FileSettings}
 use Rattle.exh_calls.specs.Call.{key_of}
 use Rattle.exh_calls.specs.MapMachine.{map_after, reply_of}
 use Rattle.exh_calls.specs.declared.call.Call.{Call}
@@ -25,10 +25,10 @@ use Rattle.exh_legal.specs.Pages.{IsAt, map_of}
 use Rattle.exh_ward.specs.NewWards.{new_ward, new_wards}
 use Rattle.exh_ward.specs.WardState.{WardState}
 use Rattle.exh_ward.specs.declared.ward_fault.WardFault.{WardFault}
-use Rattle.exh_file.specs.FileChange.{ChangesOneMap, HasMap, maps_in}
-use Rattle.exh_file.specs.InWardLemmas.{settings_kept, there, wards_left}
-use Rattle.exh_file.specs.Opened.{AreWardsOf, OpenedState, in_file}
-use Rattle.exh_file.specs.WardChange.{IsChanged}
+use Rattle.exhash.specs.FileChange.{ChangesOneMap, HasMap, maps_in}
+use Rattle.exhash.specs.InWardLemmas.{settings_kept, there, wards_left}
+use Rattle.exhash.specs.Opened.{AreWardsOf, OpenedState, in_file}
+use Rattle.exhash.specs.WardChange.{IsChanged}
 use Rattle.exh_compact.specs.Needed.{AreAllNeeded, AreNeeded, IsNeeded}
 use Rattle.exh_compact.specs.Room.{sharers}
 use Rattle.exhash.proofs.NewLemmas.{new_at, new_count}

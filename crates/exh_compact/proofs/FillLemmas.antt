@@ -19,7 +19,7 @@ use Rattle.exh_calls.specs.MapMachine.{changed, effect_in, is_full, map_after, r
 use Rattle.exh_calls.specs.SharingLemmas.{shares, sharing_all, sharing_same}
 use Rattle.exh_calls.specs.declared.call.Call.TheVariants.{Put}
 use Rattle.exh_calls.specs.declared.reply.Reply.TheVariants.{Full, New}
-use Rattle.exh_map.specs.Pairs.{AreOnce}
+use Rattle.exhash.specs.Pairs.{AreOnce}
 use Rattle.exh_compact.specs.Room.{sharers, without_room}
 use Rattle.exh_compact.proofs.Begun.{get_those, none_more, one_more, those}
 

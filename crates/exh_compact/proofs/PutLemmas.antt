@@ -22,10 +22,10 @@ use Rattle.exh_ward.specs.HopTable.{HopOf}
 use Rattle.exh_ward.specs.WardState.{IsAnswered, IsSoundWard, LeavesAfter, WardState, own_prefix}
 use Rattle.exh_ward.specs.declared.hop.Hop.{Hop}
 use Rattle.exh_ward.specs.declared.hop.Hop.TheVariants.{Done, MustSplit}
-use Rattle.exh_file.specs.declared.ward_change.TheConstants.{CHANGER}
-use Rattle.exh_file.specs.HomeLemmas.{IsFullHome}
-use Rattle.exh_file.specs.SplitLemmas.{own_kept, splits_keep}
-use Rattle.exh_file.specs.WardChange.{AreSplits, IsChanged, IsSplitAway}
+use Rattle.exhash.specs.FileLimits.{CHANGER}
+use Rattle.exhash.specs.HomeLemmas.{IsFullHome}
+use Rattle.exhash.specs.SplitLemmas.{own_kept, splits_keep}
+use Rattle.exhash.specs.WardChange.{AreSplits, IsChanged, IsSplitAway}
 use Rattle.exh_compact.specs.Needed.{AreNeeded, begun_in}
 use Rattle.exh_compact.proofs.Begun.{page_begun}
 use Rattle.exh_compact.proofs.NeededLemmas.{AreNeededBy, all_needed_more, answered_needed, begun_more, split_needed}

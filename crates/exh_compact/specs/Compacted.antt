@@ -3,16 +3,16 @@ use Rattle.std.specs.Prelude.{◌≡◌, ◌≢◌, ◌⊎◌, ℕ, List, [], le
 use Rattle.std.specs.FinMap.{from_entries}
 use Rattle.exh_keyer.specs.Pseudokey.{any_pseudokey}
 use Rattle.exh_keyer.specs.declared.any_keyer.AnyKeyer.{AnyKeyer}
-use Rattle.exh_settings.specs.FileSettings.{AreInRange}
-use Rattle.exh_settings.specs.declared.file_settings.FileSettings.{FileSettings}
-use Rattle.exh_file.specs.FileChange.{HasMap}
-use Rattle.exh_file.specs.Opened.{OpenedState, settings_in}
-use Rattle.exh_map.specs.CallFault.{IsWardFault}
-use Rattle.exh_map.specs.FileMap.{KeepsMap}
-use Rattle.exh_map.specs.Pairs.{pairs_in}
-use Rattle.exh_map.specs.Sizes.{IsOfOpening}
-use Rattle.exh_map.specs.declared.store_error.StoreError.{StoreError}
-use Rattle.exh_map.specs.declared.store_error.StoreError.TheVariants.{Settings}
+use Rattle.exh_page.specs.FileSettings.{AreInRange}
+use Rattle.exh_page.specs.declared.file_settings.FileSettings.{FileSettings}
+use Rattle.exhash.specs.FileChange.{HasMap}
+use Rattle.exhash.specs.Opened.{OpenedState, settings_in}
+use Rattle.exhash.specs.CallFault.{IsWardFault}
+use Rattle.exhash.specs.FileMap.{KeepsMap}
+use Rattle.exhash.specs.Pairs.{pairs_in}
+use Rattle.exhash.specs.Sizes.{IsOfOpening}
+use Rattle.exhash.specs.declared.StoreError.{StoreError}
+use Rattle.exhash.specs.declared.StoreError.TheVariants.{Settings}
 use Rattle.exhash.specs.Store.{IsOfSaving}
 use Rattle.exh_compact.specs.Needed.{AreAllNeeded}
 use Rattle.exh_compact.specs.Room.{without_room}

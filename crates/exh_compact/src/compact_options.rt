@@ -2,7 +2,7 @@ ghost use Rattle.std.specs.Prelude.{◌≡◌};
 ghost use Rattle.exh_compact.specs.Compacted.{settings_over};
 
 use exh_keyer::AnyKeyer;
-use exh_map::Settings;
+use exhash::Settings;
 
 /// The settings of a file that is made anew. Those that are left out are its own.
 #[derive(Clone, Copy)]

@@ -1,6 +1,6 @@
-use exh_file::Opened;
 use exh_frames::FileStore;
 use exh_page::Key;
+use exhash::Opened;
 
 /// The pairs of a map, made anew.
 #[derive(Drop)]

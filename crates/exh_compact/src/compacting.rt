@@ -1,20 +1,19 @@
 //! The pairs of a map put into new wards.
 ghost use Rattle.std.specs.Prelude.{◌≡◌, Err, IfErr, IfOk};
-ghost use Rattle.exh_file.specs.Opened.{settings_in};
-ghost use Rattle.exh_map.specs.CallFault.{IsWardFault};
-ghost use Rattle.exh_map.specs.FileMap.{KeepsMap};
-ghost use Rattle.exh_map.specs.Pairs.{AreOnce};
-ghost use Rattle.exh_map.specs.declared.store_error.StoreError.TheVariants.{Settings as SettingsFault};
-ghost use Rattle.exh_settings.specs.FileSettings.{AreInRange};
+ghost use Rattle.exhash.specs.Opened.{settings_in};
+ghost use Rattle.exhash.specs.CallFault.{IsWardFault};
+ghost use Rattle.exhash.specs.FileMap.{KeepsMap};
+ghost use Rattle.exhash.specs.Pairs.{AreOnce};
+ghost use Rattle.exhash.specs.declared.StoreError.TheVariants.{Settings as SettingsFault};
+ghost use Rattle.exh_page.specs.FileSettings.{AreInRange};
 ghost use Rattle.exh_compact.specs.Compacted.{IsCompacted, IsFilled, IsOfFilling};
 
 use crate::Compacted;
 use crate::filling::fill;
-use exh_file::Opened;
 use exh_frames::MAKER;
-use exh_map::{FileMap, Pairs, Settings, StoreError};
 use exh_stores::Pages;
 use exh_ward::new_wards;
+use exhash::{FileMap, Opened, Pairs, Settings, StoreError};
 use std::alloc::Global;
 
 /// Puts all pairs of a map into new wards of these settings, whose pages are no more than the pairs need. The map stays as it

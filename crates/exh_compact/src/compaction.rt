@@ -4,11 +4,9 @@ ghost use Rattle.exhash.specs.Store.{IsOfSaving};
 ghost use Rattle.exh_compact.specs.Compacted.{IsOfCompacting};
 
 use crate::{CompactOptions, Compacted, compact_map};
-use exh_file::Opened;
 use exh_frames::FileStore;
-use exh_map::{FileMap, StoreError};
 use exh_page::Key;
-use exhash::HeldFile;
+use exhash::{FileMap, HeldFile, Opened, StoreError};
 use std::io;
 
 /// What came of making a page file anew.

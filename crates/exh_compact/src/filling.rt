@@ -3,21 +3,21 @@ ghost use Rattle.std.specs.Prelude.{◌≡◌, [], ◌∷◌, ◌++◌, IfOk, On
 ghost use Rattle.std.specs.FinMap.{empty, from_entries};
 ghost use Rattle.exh_calls.specs.declared.call.Call.TheVariants.{Put};
 ghost use Rattle.exh_calls.specs.declared.reply.Reply.TheVariants.{New};
-ghost use Rattle.exh_file.specs.FileChange.{ChangesOneMap, HasMap};
-ghost use Rattle.exh_file.specs.Opened.{AreWardsOf, in_file};
+ghost use Rattle.exhash.specs.FileChange.{ChangesOneMap, HasMap};
+ghost use Rattle.exhash.specs.Opened.{AreWardsOf, in_file};
 ghost use Rattle.exh_keyer.specs.Pseudokey.{any_pseudokey};
-ghost use Rattle.exh_map.specs.Pairs.{AreOnce};
+ghost use Rattle.exhash.specs.Pairs.{AreOnce};
 ghost use Rattle.exh_compact.specs.Needed.{AreAllNeeded};
 ghost use Rattle.exh_compact.specs.Room.{without_room};
 
 use crate::putting::put_pair;
 use exh_calls::Reply;
 use exh_keyer::{AnyKeyer, Keyer};
-use exh_map::{Pairs, Settings};
 use exh_page::{Key, Value};
 use exh_prefix::ward_number;
 use exh_stores::Pages;
 use exh_ward::{Ward, WardFault};
+use exhash::{Pairs, Settings};
 use std::alloc::{AllocError, Global};
 
 /// Puts pairs into the wards of a file that has none, and answers the keys for which there is no room. It takes memory for

@@ -2,19 +2,19 @@
 ghost use Rattle.std.specs.Prelude.{◌≡◌, IfOk, OnOk};
 ghost use Rattle.exh_calls.specs.declared.call.Call.TheVariants.{Put};
 ghost use Rattle.exh_calls.specs.declared.reply.Reply.TheVariants.{New};
-ghost use Rattle.exh_file.specs.WardChange.{IsChanged, IsHomeAt, IsSplitAway};
+ghost use Rattle.exhash.specs.WardChange.{IsChanged, IsHomeAt, IsSplitAway};
 ghost use Rattle.exh_keyer.specs.Pseudokey.{any_pseudokey};
 ghost use Rattle.exh_prefix.specs.Prefix.{Begins};
 ghost use Rattle.exh_ward.specs.WardState.{IsSoundWard, own_prefix};
 ghost use Rattle.exh_compact.specs.Needed.{AreNeeded};
 
 use exh_calls::{Call, Reply};
-use exh_file::CHANGER;
 use exh_keyer::AnyKeyer;
 use exh_page::{Key, Value};
 use exh_prefix::{LIMIT, PageNo};
 use exh_stores::Pages;
 use exh_ward::{Hop, Ward, WardFault};
+use exhash::CHANGER;
 
 /// Puts a pair into the ward that covers its key, whose pseudokey is given: at the key's home, which is split as long as it
 /// is full for the key. So no page is more than the pairs need, if none was before and the key is new.

@@ -5,7 +5,7 @@ use Rattle.std.proofs.lemmas.List.Sums.{sum_by-cons}
 use Rattle.std.specs.List.{AllByRecursion, flat_map, sum}
 use Rattle.exh_keyer.specs.Pseudokey.{any_pseudokey}
 use Rattle.exh_page.specs.declared.page.Page.{Page}
-use Rattle.exh_legal.specs.MapLemmas.{page_at}
+use Rattle.exh_format.specs.MapLemmas.{page_at}
 use Rattle.exh_codec.specs.CodecLaws.{ImagesAreBlocks}
 use Rattle.exh_codec.specs.PageImage.{IsImage, IsPage}
 use Rattle.exh_format.specs.declared.file_entry.FileEntry.{FileEntry}

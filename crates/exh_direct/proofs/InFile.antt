@@ -21,18 +21,18 @@ use Rattle.exh_prefix.specs.PrefixLemmas.{begins_low, is_front-true}
 use Rattle.exh_prefix.specs.declared.version.Version.{Version as KnownVersion}
 use Rattle.exh_prefix.specs.Version.{Fits}
 use Rattle.exh_prefix.specs.LayoutLemmas.{fits_wider}
-use Rattle.exh_table.specs.declared.leaf.Leaf.{Leaf}
-use Rattle.exh_table.specs.Table.{TableMap}
-use Rattle.exh_table.specs.TableWalk.{walk_in, walk_of}
+use Rattle.exh_format.specs.declared.Leaf.{Leaf}
+use Rattle.exh_format.specs.Table.{TableMap}
+use Rattle.exh_format.specs.TableWalk.{walk_in, walk_of}
 use Rattle.exh_page.specs.declared.page.Page.{Page}
 use Rattle.exh_page.specs.declared.page.Page.TheVariants.{Live}
 use Rattle.exh_page.specs.declared.record.Record.{Record}
 use Rattle.exh_page.specs.Page.{records_of}
 use Rattle.exh_page.specs.Records.{value_at}
-use Rattle.exh_legal.specs.LegalLaws.{IsWard, WalksNameHomes}
-use Rattle.exh_legal.specs.MapLemmas.{get-map_of}
-use Rattle.exh_legal.specs.Pages.{IsAt, IsLegal}
-use Rattle.exh_legal.specs.WardMapLemmas.{get_in_ward, legal_from}
+use Rattle.exh_format.specs.LegalLaws.{IsWard, WalksNameHomes}
+use Rattle.exh_format.specs.MapLemmas.{get-map_of}
+use Rattle.exh_format.specs.Pages.{IsAt, IsLegal}
+use Rattle.exh_format.specs.WardMapLemmas.{get_in_ward, legal_from}
 use Rattle.exh_codec.specs.ImageTestLemmas.{none_first as none_image_first}
 use Rattle.exh_codec.specs.CodecLaws.{ImagesAreBlocks, ImagesPass, OnePage}
 use Rattle.exh_codec.specs.PageImage.{IsImage}

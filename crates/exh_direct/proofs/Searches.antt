@@ -7,7 +7,7 @@ use Rattle.std.specs.Cmp.{nat_eq_equiv}
 use Rattle.std.specs.Io.KnownBytes.{Appends}
 use Rattle.std.specs.List.{AllByRecursion, IsDistinct, list_any}
 use Rattle.exh_prefix.specs.PrefixListLemmas.{AllByRecursion-push}
-use Rattle.exh_table.specs.declared.leaf.Leaf.{Leaf}
+use Rattle.exh_format.specs.declared.Leaf.{Leaf}
 use Rattle.exh_format.specs.declared.file_entry.FileEntry.{FileEntry}
 use Rattle.exh_format.specs.declared.header.Header.{Header}
 use Rattle.exh_format.specs.FileVersion.{FileVersion}

@@ -11,10 +11,10 @@ use Rattle.exh_prefix.specs.Prefix.{prefix_cmp}
 use Rattle.exh_prefix.specs.PrefixLemmas.{prefix_cmp-total}
 use Rattle.std.proofs.lemmas.Cmp.{tied_itself}
 use Rattle.exh_prefix.specs.declared.prefix.TheConstants.{LIMIT}
-use Rattle.exh_table.specs.declared.leaf.Leaf.{Leaf}
-use Rattle.exh_table.specs.Table.{TableMap}
-use Rattle.exh_table.specs.TableWalk.{right_of, right_of_kind, split_at, walk_of}
-use Rattle.exh_table.specs.WalkLemmas.{IsOnWalk, on_walk_end, on_walk_step}
+use Rattle.exh_format.specs.declared.Leaf.{Leaf}
+use Rattle.exh_format.specs.Table.{TableMap}
+use Rattle.exh_format.specs.TableWalk.{right_of, right_of_kind, split_at, walk_of}
+use Rattle.exh_format.specs.WalkLemmas.{IsOnWalk, on_walk_end, on_walk_step}
 use Rattle.exh_format.specs.declared.file_entry.FileEntry.{FileEntry}
 use Rattle.exh_format.specs.declared.header.Header.{Header}
 use Rattle.exh_format.specs.LegalFile.{naming, table_naming, told_of}

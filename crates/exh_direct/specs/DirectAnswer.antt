@@ -4,7 +4,7 @@ use Rattle.std.specs.List.{IsDistinct, list_any, sum}
 use Rattle.std.specs.Io.KnownBytes.{Appends}
 use Rattle.exh_keyer.specs.Pseudokey.{any_pseudokey}
 use Rattle.exh_prefix.specs.Leading.{ward_of}
-use Rattle.exh_table.specs.declared.leaf.Leaf.{Leaf}
+use Rattle.exh_format.specs.declared.Leaf.{Leaf}
 use Rattle.exh_page.specs.declared.page.Page.{Page}
 use Rattle.exh_page.specs.Page.{records_of}
 use Rattle.exh_page.specs.Records.{value_at}

@@ -4,7 +4,7 @@ use Rattle.std.specs.List.{AllByRecursion, IsDistinct}
 use Rattle.std.specs.FinMap.{get}
 use Rattle.std.specs.Io.KnownBytes.{Appends}
 use Rattle.exh_page.specs.KeyMap.{KeyMap}
-use Rattle.exh_legal.specs.Pages.{map_of}
+use Rattle.exh_format.specs.Pages.{map_of}
 use Rattle.exh_format.specs.PageFile.{PageFile, pages_of, table_blocks}
 use Rattle.exh_direct.specs.declared.direct_fault.DirectFault.{DirectFault}
 use Rattle.exh_direct.specs.declared.direct_fault.DirectFault.TheVariants.{File, Astray, Read, Memory}

@@ -1,3 +1,5 @@
+pub use Rattle.exh_format.specs.HeaderTests
+pub use Rattle.exh_format.specs.PageFile
 pub mod KnownBlocks
 pub mod DirectFault
 pub mod Way

@@ -5,8 +5,8 @@ use Rattle.exh_prefix.specs.Bits.{word_bits}
 use Rattle.exh_prefix.specs.LeadingLemmas.{length-leading_bits}
 use Rattle.exh_prefix.specs.PrefixLemmas.{length-word_bits}
 use Rattle.exh_prefix.specs.declared.prefix.TheConstants.{LIMIT}
-use Rattle.exh_table.specs.declared.leaf.Leaf.{Leaf}
-use Rattle.exh_table.specs.TableWalk.{step}
+use Rattle.exh_format.specs.declared.Leaf.{Leaf}
+use Rattle.exh_format.specs.TableWalk.{step}
 use Rattle.exh_direct.specs.TableSearch.{IsOnWay, first_leaf}
 
 pub step_on_way : (pseudokey : ℕ) (leaf : Leaf) (bit : Bool) (right : ℕ) → IsOnWay pseudokey leaf → length leaf.prefix < LIMIT → bit ≡ get_or (word_bits pseudokey) (length leaf.prefix) false → IsOnWay pseudokey (step leaf bit right)

@@ -7,8 +7,8 @@ use Rattle.exh_prefix.specs.Bits.{word_bits}
 use Rattle.exh_prefix.specs.Leading.{ward_of}
 use Rattle.exh_prefix.specs.Prefix.{Begins, prefix_cmp}
 use Rattle.exh_prefix.specs.declared.prefix.TheConstants.{LIMIT}
-use Rattle.exh_table.specs.declared.leaf.Leaf.{Leaf}
-use Rattle.exh_table.specs.TableWalk.{right_of_kind, step}
+use Rattle.exh_format.specs.declared.Leaf.{Leaf}
+use Rattle.exh_format.specs.TableWalk.{right_of_kind, step}
 use Rattle.exh_format.specs.declared.file_entry.FileEntry.{FileEntry}
 use Rattle.exh_format.specs.declared.header.Header.{Header}
 use Rattle.exh_format.specs.declared.table_block.TheConstants.{BLOCK_ENTRIES}

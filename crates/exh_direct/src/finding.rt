@@ -48,7 +48,7 @@ pub fn find<B: Blocks>(
     exh_format::one_value();
     exh_format::images_pass();
     exh_format::images_are_blocks();
-    exh_legal::walks_name_homes();
+    exh_format::walks_name_homes();
     find_on_way(alloc, blocks, count, first, key)
 }
 

@@ -4,6 +4,7 @@
 
 pub use blocks::Blocks;
 pub use direct_fault::DirectFault;
+pub use exh_format::{BLOCK_ENTRIES, Header};
 pub use finding::find;
 pub use reading::{read_block, read_page};
 

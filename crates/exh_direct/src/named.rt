@@ -9,8 +9,7 @@ ghost use Rattle.exh_direct.specs.DirectAnswer.{FailsInTable, NamesPage};
 use crate::search::entry_at;
 use crate::walk::{first_leaf, next_bit};
 use crate::{Blocks, DirectFault};
-use exh_format::{FileEntry, Header};
-use exh_notice::Kind;
+use exh_format::{FileEntry, Header, Kind};
 use exh_prefix::{LIMIT, PageNo, Version, ward_number};
 use std::alloc::Global;
 

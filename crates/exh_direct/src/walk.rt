@@ -4,8 +4,8 @@ ghost use Rattle.exh_prefix.specs.Bits.{word_bits};
 ghost use Rattle.exh_prefix.specs.Prefix.{Begins};
 ghost use Rattle.exh_direct.specs.TableSearch.{first_leaf};
 
+use exh_format::Leaf;
 use exh_prefix::{Prefix, leading};
-use exh_table::Leaf;
 
 /// Where a walk for a pseudokey begins: at its first bits, so many, with page 0.
 pub(crate) fn first_leaf(ward_bits: u8, pseudokey: u64) -> Leaf

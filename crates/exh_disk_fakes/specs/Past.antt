@@ -1,7 +1,7 @@
 -- What has stood at the path of a file system in memory.
 use Rattle.std.specs.Prelude.{ℕ, Bool, true, false, List, map, None, Option, Some, Vec, bytes_eq, if◌then◌else◌}
 use Rattle.std.specs.declared.alloc.Global.{Global}
-use Rattle.exh_disk.specs.History.{File, History, Nothing, Standing}
+use Rattle.exh_saving.specs.History.{File, History, Nothing, Standing}
 use Rattle.exh_disk_fakes.specs.declared.past.Past.{Past}
 use Rattle.exh_disk_fakes.specs.declared.past.TheConstants.{PATH}
 

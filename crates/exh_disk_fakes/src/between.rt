@@ -3,11 +3,12 @@ ghost use Rattle.std.specs.Prelude.{◌≡◌, Bool, false, true};
 ghost use Rattle.exh_saving.specs.declared.source.SourceFault.TheVariants.{Writer};
 ghost use Rattle.exh_disk_fakes.specs.Past.{known};
 
-use crate::memory_disk::{MAGIC, SAVED};
+use crate::memory_disk::{MAGIC, MemoryDisk, SAVED};
+use crate::memory_file::MemoryOpened;
 use crate::past::PATH;
-use crate::{MemoryDisk, MemoryOpened, Saver, Side};
-use exh_disk::Seen;
-use exh_saving::{Source, SourceFault, Target, Watch, save};
+use crate::saver::Saver;
+use crate::side::Side;
+use exh_saving::{Seen, Source, SourceFault, Target, Watch, save};
 use std::io;
 use std::io::Write;
 

@@ -1,10 +1,10 @@
 //! A file system in memory, of one path and the names beside it.
 ghost use Rattle.std.specs.Prelude.{◌≡◌, IsErr};
 
+use crate::memory_file::{MemoryHeld, MemoryOpened};
 use crate::node::{Node, node_at, node_at_mut};
 use crate::past::{PATH, Past};
-use crate::{MemoryHeld, MemoryOpened};
-use exh_disk::{Found, Kind};
+use exh_saving::{Found, Kind};
 use std::alloc::{AllocError, Global};
 use std::io;
 use std::io::ErrorKind;

@@ -1,6 +1,6 @@
 //! Open files of a file system in memory.
 
-use exh_disk::Stage;
+use exh_saving::Stage;
 use std::alloc::AllocError;
 use std::rc::Rc;
 

@@ -1,7 +1,8 @@
 ghost use Rattle.std.specs.Prelude.{Some};
 
 use crate::memory_disk::fault;
-use crate::{MemoryFile, Saver};
+use crate::memory_file::MemoryFile;
+use crate::saver::Saver;
 use std::io;
 use std::io::{ErrorKind, Write};
 

@@ -1,8 +1,8 @@
 //! A file of a file system in memory, whether or not it has a name.
 
-use crate::MemoryOpened;
 use crate::memory_disk::fault;
-use exh_disk::Found;
+use crate::memory_file::MemoryOpened;
+use exh_saving::Found;
 use std::io;
 use std::io::ErrorKind;
 use std::rc::Rc;

@@ -1,6 +1,6 @@
 //! What has stood at a path.
 ghost use Rattle.std.specs.Prelude.{◌≡◌, None, OnErr, OnOk, Some};
-ghost use Rattle.exh_disk.specs.History.{kept, placed};
+ghost use Rattle.exh_saving.specs.History.{kept, placed};
 
 use std::alloc::{AllocError, Global};
 

@@ -1,10 +1,13 @@
 //! Saves over a file system in memory: what they leave where a call fails or a saver is killed, where another saver comes
 //! in between, and what they do with what has the name beside the path.
 
-use crate::memory_disk::{OLD, SAVED, USER};
+use crate::between::{Ending, Nobody, OtherSaver, save_as};
+use crate::memory_disk::{MemoryDisk, OLD, SAVED, USER};
+use crate::memory_file::MemoryOpened;
 use crate::past::PATH;
-use crate::{Ending, MemoryDisk, MemoryOpened, Nobody, OtherSaver, Saver, Side, save_as};
-use exh_disk::{Kind, Seen};
+use crate::saver::Saver;
+use crate::side::Side;
+use exh_saving::{Kind, Seen};
 use std::alloc::{AllocError, Global};
 use std::io;
 use std::test::Fail;

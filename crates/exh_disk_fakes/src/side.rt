@@ -1,14 +1,16 @@
 //! What one saver sees of a file system in memory.
 ghost use Rattle.std.specs.Prelude.{◌≡◌, ◌&&◌, ⊤, None, Some, [], OnOk, OnErr, bytes_eq, string_bytes, true};
-ghost use Rattle.exh_disk.specs.History.{placed};
+ghost use Rattle.exh_saving.specs.History.{placed};
 ghost use Rattle.exh_disk_fakes.specs.Past.{history_at, known};
 
-use crate::memory_disk::{OLD_MODE, USER, fault};
-use crate::memory_writer::PIECE;
+use crate::between::Between;
+use crate::memory_disk::{MemoryDisk, OLD_MODE, USER, fault};
+use crate::memory_file::{MemoryFile, MemoryHeld, MemoryOpened};
+use crate::memory_writer::{MemoryWriter, PIECE};
 use crate::node::node_at_mut;
 use crate::past::PATH;
-use crate::{Between, MemoryDisk, MemoryFile, MemoryHeld, MemoryOpened, MemoryWriter, Saver};
-use exh_disk::{Disk, Found, Head, Kind, Runner, Stage};
+use crate::saver::Saver;
+use exh_saving::{Disk, Found, Head, Kind, Runner, Stage};
 use std::alloc::Global;
 use std::io;
 use std::io::ErrorKind;

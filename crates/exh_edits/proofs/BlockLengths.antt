@@ -9,10 +9,10 @@ use Rattle.exh_page.specs.declared.page.Page.{Page}
 use Rattle.exh_codec.specs.BlockLemmas.{length-padded, length-sealed}
 use Rattle.exh_codec.specs.CodecLaws.{ImagesAreBlocks}
 use Rattle.exh_codec.specs.PageImage.{IsPage, padded}
-use Rattle.exh_format.specs.declared.header.Header.{Header}
-use Rattle.exh_format.specs.FileVersion.{FileVersion}
-use Rattle.exh_format.specs.HeaderImage.{front_bytes}
-use Rattle.exh_format.specs.PageFile.{page_block}
+use Rattle.exh_cells.specs.declared.Header.{Header}
+use Rattle.exh_cells.specs.FileVersion.{FileVersion}
+use Rattle.exh_cells.specs.HeaderImage.{front_bytes}
+use Rattle.exh_cells.specs.PageFile.{page_block}
 use Rattle.exh_cells.specs.declared.cell.Cell.{Cell}
 use Rattle.exh_cells.specs.declared.stamped_header.StampedHeader.{StampedHeader}
 use Rattle.exh_cells.specs.BlockLaws.{WalksAreBlocks}

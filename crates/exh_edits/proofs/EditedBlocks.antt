@@ -2,7 +2,7 @@
 use Rattle.std.proofs.Common.{◌≡◌, ◌≢◌, ℕ, suc, ◌+◌, ◌-◌, ◌*◌, ◌≤◌, max, List, ◌++◌, length, take, drop, sym, ap, ◌∙◌, inl, inr, arith}
 use Rattle.std.proofs.lemmas.Bool.{cases_lt}
 use Rattle.std.proofs.lemmas.List.{drop-append-le, drop-drop, drop_at, length-append, length-drop, length-take-le, take-append-drop, take-append-le, take_at}
-use Rattle.exh_format.specs.FileTests.{IsWhole, block_at}
+use Rattle.exh_cells.specs.FileTests.{IsWhole, block_at}
 use Rattle.exh_edits.specs.BlockEdits.{with_block}
 use Rattle.exh_edits.specs.EditLaws.{StandsAt}
 use Rattle.exh_edits.specs.EditsKeepOthers.{IsEditOf}

@@ -4,7 +4,7 @@ use Rattle.std.proofs.lemmas.List.{length-drop, map_push}
 use Rattle.std.specs.List.{AllByRecursion, IsDistinct, list_any}
 use Rattle.exh_prefix.specs.PrefixListLemmas.{AllByRecursion-push}
 use Rattle.exh_direct.specs.OnceLemmas.{differ, distinct_more}
-use Rattle.exh_format.specs.FileTests.{IsWhole}
+use Rattle.exh_cells.specs.FileTests.{IsWhole}
 use Rattle.exh_edits.specs.declared.block_edit.BlockEdit.{BlockEdit}
 use Rattle.exh_edits.specs.BlockEdits.{with_block, with_edits}
 use Rattle.exh_edits.specs.EditLaws.{StandsAt}

@@ -7,7 +7,7 @@ use Rattle.std.proofs.lemmas.Option.{slice_get_within}
 use Rattle.exh_page.specs.declared.page.Page.{Page}
 use Rattle.exh_keyer.specs.Pseudokey.{any_pseudokey}
 use Rattle.exh_codec.specs.CodecLaws.{ImagesAreBlocks}
-use Rattle.exh_format.specs.PageFile.{page_block}
+use Rattle.exh_cells.specs.PageFile.{page_block}
 use Rattle.exh_cells.specs.declared.cell.Cell.{Cell}
 use Rattle.exh_cells.specs.BlockLaws.{WalksAreBlocks}
 use Rattle.exh_cells.specs.PlacedFile.{IsPlaced, PlacedFile, group_bytes, placed_bytes, stamped_block, walk_block}

@@ -10,7 +10,7 @@ use Rattle.exh_keyer.specs.declared.any_keyer.AnyKeyer.{AnyKeyer}
 use Rattle.exh_page.specs.declared.page.Page.{Page}
 use Rattle.exh_codec.specs.CodecLaws.{ImagesAreBlocks}
 use Rattle.exh_codec.specs.PageImage.{IsPage}
-use Rattle.exh_format.specs.PageFile.{page_block}
+use Rattle.exh_cells.specs.PageFile.{page_block}
 use Rattle.exh_cells.specs.declared.cell.Cell.{Cell}
 use Rattle.exh_cells.specs.declared.stamped_header.StampedHeader.{StampedHeader}
 use Rattle.exh_cells.specs.BlockLaws.{WalksAreBlocks}

@@ -14,3 +14,12 @@ pub mod Standing
 pub mod FileEdits
 -- of blocks that are compared
 pub mod Compared
+pub mod Counts
+pub mod BlockLemmas
+pub mod Few
+pub mod PlacedBlocks
+pub mod WardNumbers
+pub mod LegalWards
+pub mod PlacedWalks
+pub mod InPlaced
+pub mod AnyVersion

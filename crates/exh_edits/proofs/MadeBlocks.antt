@@ -3,7 +3,7 @@ use Rattle.std.proofs.Common.{◌≡◌, ◌≢◌, ℕ, zero, suc, ◌+◌, ◌
 use Rattle.std.specs.List.{AllByRecursion, flat_map}
 use Rattle.std.proofs.lemmas.Bool.{cases_eq}
 use Rattle.std.proofs.lemmas.List.{drop-drop, length-append, length-drop, nil_from_length, take-append-drop, take_at}
-use Rattle.exh_format.specs.FileTests.{block_at}
+use Rattle.exh_cells.specs.FileTests.{block_at}
 use Rattle.exh_edits.specs.BlockEdits.{with_block}
 use Rattle.exh_edits.specs.EditLaws.{StandsAt}
 use Rattle.exh_edits.specs.EditsKeepOthers.{IsEditOf}

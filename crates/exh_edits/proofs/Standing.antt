@@ -3,7 +3,7 @@ use Rattle.std.proofs.Common.{◌≡◌, ℕ, suc, ◌+◌, ◌-◌, ◌*◌, �
 use Rattle.std.proofs.lemmas.Option.{slice_get_within}
 use Rattle.exh_page.specs.declared.page.Page.{Page}
 use Rattle.exh_codec.specs.CodecLaws.{ImagesAreBlocks}
-use Rattle.exh_format.specs.PageFile.{page_block}
+use Rattle.exh_cells.specs.PageFile.{page_block}
 use Rattle.exh_cells.specs.BlockLaws.{WalksAreBlocks}
 use Rattle.exh_cells.specs.PlacedFile.{IsPlacedFile, PlacedFile, stamped_block, walk_block}
 use Rattle.exh_cells.specs.Places.{end_block_of, page_block_of, walk_block_of}

@@ -1,7 +1,7 @@
 -- A file's bytes beside those that are to be its new content, and the blocks in which they differ.
 use Rattle.std.specs.Prelude.{◌≡◌, ◌≢◌, ◌⊎◌, ℕ, ◌*◌, ◌/◌, ◌^◌, ◌<◌, ◌≤◌, List, [], ◌∷◌, ◌++◌, length, take, drop, slice_get, Option, option_map, Some, IfSome}
 use Rattle.exh_codec.specs.declared.block.TheConstants.{BLOCK_LEN}
-use Rattle.exh_format.specs.FileTests.{IsWhole, block_at}
+use Rattle.exh_cells.specs.FileTests.{IsWhole, block_at}
 use Rattle.exh_edits.specs.declared.block_edit.BlockEdit.{BlockEdit}
 use Rattle.exh_edits.specs.declared.differing_fault.DifferingFault.{DifferingFault}
 use Rattle.exh_edits.specs.declared.differing_fault.DifferingFault.TheVariants.{Shorter}

@@ -6,8 +6,8 @@ use Rattle.exh_keyer.specs.Pseudokey.{any_pseudokey}
 use Rattle.exh_page.specs.declared.page.Page.{Page}
 use Rattle.exh_codec.specs.declared.block.TheConstants.{BLOCK_LEN}
 use Rattle.exh_codec.specs.PageImage.{IsPage}
-use Rattle.exh_format.specs.FileTests.{IsWhole, block_at}
-use Rattle.exh_format.specs.PageFile.{page_block}
+use Rattle.exh_cells.specs.FileTests.{IsWhole, block_at}
+use Rattle.exh_cells.specs.PageFile.{page_block}
 use Rattle.exh_cells.specs.declared.cell.Cell.{Cell}
 use Rattle.exh_cells.specs.declared.places.TheConstants.{GROUP_PAGES}
 use Rattle.exh_cells.specs.declared.stamped_header.StampedHeader.{StampedHeader}

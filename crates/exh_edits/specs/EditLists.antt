@@ -1,7 +1,7 @@
 -- Several edits of the same bytes, one after the other.
 use Rattle.std.specs.Prelude.{◌≡◌, ◌≢◌, ◌↔◌, ⊤, ℕ, List, [], ◌∷◌, ◌++◌, length, slice_get, slice_set, Some}
 use Rattle.exh_codec.specs.declared.block.TheConstants.{BLOCK_LEN}
-use Rattle.exh_format.specs.FileTests.{IsWhole, block_at}
+use Rattle.exh_cells.specs.FileTests.{IsWhole, block_at}
 use Rattle.exh_edits.specs.declared.block_edit.BlockEdit.{BlockEdit}
 use Rattle.exh_edits.specs.BlockEdits.{with_block, with_edits}
 use Rattle.exh_edits.specs.EditLaws.{StandsAt}

@@ -2,7 +2,7 @@
 use Rattle.std.specs.Prelude.{◌≡◌, ℕ, ◌+◌, ◌*◌, ◌<◌, ◌≤◌, nat_eq, true, List, [], ◌∷◌, Some, length, map, max, slice_get}
 use Rattle.std.specs.List.{AllByRecursion, IsDistinct, list_any}
 use Rattle.exh_codec.specs.declared.block.TheConstants.{BLOCK_LEN}
-use Rattle.exh_format.specs.FileTests.{block_at}
+use Rattle.exh_cells.specs.FileTests.{block_at}
 use Rattle.exh_edits.specs.declared.block_edit.BlockEdit.{BlockEdit}
 use Rattle.exh_edits.specs.BlockEdits.{with_block, with_edits}
 use Rattle.exh_edits.specs.EditLaws.{StandsAt}

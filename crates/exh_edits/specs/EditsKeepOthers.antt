@@ -1,7 +1,7 @@
 -- Bytes of which a block was replaced or added: which block stands at each place, and how long they are.
 use Rattle.std.specs.Prelude.{◌≡◌, ◌≢◌, ℕ, ◌+◌, ◌*◌, ◌≤◌, max, List, length}
 use Rattle.exh_codec.specs.declared.block.TheConstants.{BLOCK_LEN}
-use Rattle.exh_format.specs.FileTests.{IsWhole, block_at}
+use Rattle.exh_cells.specs.FileTests.{IsWhole, block_at}
 use Rattle.exh_edits.specs.BlockEdits.{with_block}
 use Rattle.exh_edits.specs.EditLaws.{StandsAt}
 

@@ -1,3 +1,4 @@
+pub use Rattle.exh_cells.specs.FileTests
 pub mod BlockEdits
 pub mod PlacedEdits
 pub mod EditLaws
@@ -6,3 +7,11 @@ pub mod EditLists
 pub mod Comparison
 pub mod EditsInTurn
 pub mod EditLemmas
+pub use Rattle.exh_format.specs.HeaderImage
+pub use Rattle.exh_format.specs.HeaderLemmas
+pub mod WalkBlocks
+pub mod CellWalk
+pub mod PlacedAnswer
+pub mod PlacedHome
+pub mod PlacedLaws
+pub mod AnyAnswer

@@ -4,8 +4,8 @@ ghost use Rattle.exh_codec.specs.declared.block.TheConstants.{BLOCK_LEN};
 ghost use Rattle.exh_edits.specs.EditsInTurn.{AreEdits, AreMoreAt, HasPlace, IsMade, StandsOver, StoodBefore, places_of};
 
 use crate::block_edit::BlockEdit;
+use exh_cells::push_item;
 use exh_codec::BLOCK_LEN;
-use exh_format::push_item;
 use std::alloc::{AllocError, Global};
 
 /// Blocks of a file that are to have other content, or to stand behind its last one, at most one for each place.

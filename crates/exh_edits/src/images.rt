@@ -4,12 +4,11 @@ ghost use Rattle.exh_keyer.specs.Pseudokey.{any_pseudokey};
 ghost use Rattle.exh_prefix.specs.Version.{second_version};
 ghost use Rattle.exh_page.specs.Page.{IsWellFormed};
 ghost use Rattle.exh_codec.specs.PageImage.{IsPage};
-ghost use Rattle.exh_format.specs.PageFile.{page_block};
+ghost use Rattle.exh_cells.specs.PageFile.{page_block};
 ghost use Rattle.exh_cells.specs.declared.places.TheConstants.{GROUP_PAGES};
 ghost use Rattle.exh_cells.specs.PlacedFile.{stamped_block, walk_block};
 ghost use Rattle.exh_cells.specs.StampedHeader.{IsStampedHeader};
 
-use crate::header_block::encode_header;
 use exh_cells::{Cell, StampedHeader, encode_cells};
 use exh_codec::{BLOCK_LEN, encode_page};
 use exh_keyer::AnyKeyer;
@@ -32,7 +31,7 @@ pub fn header_image(header: &StampedHeader) -> [u8; BLOCK_LEN]
     requires { IsStampedHeader header.now }
     ensures { result ≡ stamped_block header.now }
 {
-    encode_header(header)
+    header.to_block()
 }
 
 /// The walk block of some cells. It takes no memory.

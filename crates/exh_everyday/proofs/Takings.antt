@@ -11,9 +11,9 @@ use Rattle.exh_page.specs.KeyMap.{KeyMap}
 use Rattle.exh_calls.specs.Effect.{effect_of}
 use Rattle.exh_calls.specs.MapMachine.{changed}
 use Rattle.exh_calls.specs.declared.call.Call.TheVariants.{Del}
-use Rattle.exh_file.specs.FileChange.{HasMap}
-use Rattle.exh_file.specs.Opened.{OpenedState}
-use Rattle.exh_map.specs.FileMap.{map_then}
+use Rattle.exh_transfer.specs.FileChange.{HasMap}
+use Rattle.exh_transfer.specs.Opened.{OpenedState}
+use Rattle.exh_transfer.specs.FileMap.{map_then}
 use Rattle.exh_everyday.specs.declared.found.Found.{Found}
 use Rattle.exh_everyday.specs.Founds.{AreOut, AreTaken, Asked, IsAmong, IsLeft, IsOut, IsTakenOne, IsWithout, keys_of}
 use Rattle.exh_everyday.proofs.Founds.{added_none, added_one}

@@ -3,14 +3,14 @@ use Rattle.std.specs.Prelude.{ℕ, Bool, true, false, List, [], ◌∷◌, ◌++
 use Rattle.hex.specs.Hex.{encode_lower}
 use Rattle.exh_text.specs.Contents.{on_line}
 use Rattle.exh_text.specs.Printing.{printed}
-use Rattle.exh_map.specs.declared.put.Put.{Put}
-use Rattle.exh_map.specs.declared.put.Put.TheVariants as put
-use Rattle.exh_map.specs.declared.put_new.PutNew.{PutNew}
-use Rattle.exh_map.specs.declared.put_new.PutNew.TheVariants as put_new
-use Rattle.exh_map.specs.declared.swap.Swap.{Swap}
-use Rattle.exh_map.specs.declared.swap.Swap.TheVariants as swap
-use Rattle.exh_answer.specs.declared.status.Status.{Status}
-use Rattle.exh_answer.specs.declared.status.Status.TheVariants.{Done, Missing}
+use Rattle.exh_transfer.specs.declared.Put.{Put}
+use Rattle.exh_transfer.specs.declared.Put.TheVariants as put
+use Rattle.exh_transfer.specs.declared.PutNew.{PutNew}
+use Rattle.exh_transfer.specs.declared.PutNew.TheVariants as put_new
+use Rattle.exh_transfer.specs.declared.Swap.{Swap}
+use Rattle.exh_transfer.specs.declared.Swap.TheVariants as swap
+use Rattle.exh_transfer.specs.declared.Status.{Status}
+use Rattle.exh_transfer.specs.declared.Status.TheVariants.{Done, Missing}
 use Rattle.exh_everyday.specs.declared.answer.Answer.{Answer}
 use Rattle.exh_everyday.specs.declared.answer.Answer.TheVariants.{New, Was, Full, Exists, Absent, Swapped, Differs}
 

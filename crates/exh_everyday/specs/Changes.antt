@@ -1,10 +1,10 @@
 -- What is answered to a change of one key.
 use Rattle.std.specs.Prelude.{◌≡◌, ℕ, List, Option}
-use Rattle.exh_file.specs.Opened.{OpenedState}
-use Rattle.exh_map.specs.FileMap.{IsPut, IsPutNew, IsRemoved, IsReplaced, IsSwap}
-use Rattle.exh_map.specs.declared.put.Put.{Put as PutSaid}
-use Rattle.exh_map.specs.declared.put_new.PutNew.{PutNew as PutNewSaid}
-use Rattle.exh_map.specs.declared.swap.Swap.{Swap as SwapSaid}
+use Rattle.exh_transfer.specs.Opened.{OpenedState}
+use Rattle.exh_transfer.specs.FileMap.{IsPut, IsPutNew, IsRemoved, IsReplaced, IsSwap}
+use Rattle.exh_transfer.specs.declared.Put.{Put as PutSaid}
+use Rattle.exh_transfer.specs.declared.PutNew.{PutNew as PutNewSaid}
+use Rattle.exh_transfer.specs.declared.Swap.{Swap as SwapSaid}
 use Rattle.exh_everyday.specs.declared.answer.Answer.{Answer}
 use Rattle.exh_everyday.specs.declared.change.Change.{Change}
 use Rattle.exh_everyday.specs.declared.change.Change.TheVariants.{Put, PutNew, Replace, Remove, Swap}

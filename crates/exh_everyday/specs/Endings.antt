@@ -1,12 +1,12 @@
 -- How an everyday command ends, by what the library answers.
 use Rattle.std.specs.Prelude.{Bool, List, ℕ, codes, flat_map, Option, Some, None, Result, Ok, Err}
-use Rattle.exh_backup.specs.declared.fault.BackupFault.{BackupFault}
-use Rattle.exh_backup.specs.declared.fault.BackupFault.TheVariants.{File, Copy}
-use Rattle.exh_map.specs.declared.store_error.StoreError.{StoreError}
+use Rattle.exh_transfer.specs.declared.BackupFault.{BackupFault}
+use Rattle.exh_transfer.specs.declared.BackupFault.TheVariants.{File, Copy}
+use Rattle.exh_transfer.specs.declared.StoreError.{StoreError}
 use Rattle.exh_request.specs.declared.form.Form.{Form}
-use Rattle.exh_answer.specs.declared.status.Status.{Status}
-use Rattle.exh_answer.specs.declared.status.Status.TheVariants.{Done, Missing}
-use Rattle.exh_run.specs.Ends.{Ended, Silent, Says, change_status, reading_status, unmade_status}
+use Rattle.exh_transfer.specs.declared.Status.{Status}
+use Rattle.exh_transfer.specs.declared.Status.TheVariants.{Done, Missing}
+use Rattle.exh_transfer.specs.Ends.{Ended, Silent, Says, change_status, reading_status, unmade_status}
 use Rattle.exh_everyday.specs.declared.answer.Answer.{Answer}
 use Rattle.exh_everyday.specs.declared.found.Found.{Found}
 use Rattle.exh_everyday.specs.Answers.{answer_line, answer_status, found_status, pair_line, value_text}

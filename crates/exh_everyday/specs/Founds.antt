@@ -4,10 +4,10 @@ use Rattle.std.specs.List.{AllByRecursion}
 use Rattle.std.specs.FinMap as fin
 use Rattle.exh_page.specs.KeyMap.{KeyMap}
 use Rattle.exh_direct.specs.declared.direct_fault.DirectFault.{DirectFault}
-use Rattle.exh_walked.specs.AnyAnswer.{IsOfLegal}
-use Rattle.exh_file.specs.FileChange.{HasMap}
-use Rattle.exh_file.specs.Opened.{OpenedState}
-use Rattle.exh_map.specs.FileMap.{IsRemoved}
+use Rattle.exh_transfer.specs.AnyAnswer.{IsOfLegal}
+use Rattle.exh_transfer.specs.FileChange.{HasMap}
+use Rattle.exh_transfer.specs.Opened.{OpenedState}
+use Rattle.exh_transfer.specs.FileMap.{IsRemoved}
 use Rattle.exh_everyday.specs.declared.found.Found.{Found}
 
 -- ---- one key

@@ -1,9 +1,9 @@
 -- How the run of an everyday command ends: as some answer of the library to it has it.
 use Rattle.std.specs.Prelude.{◌≡◌, ◌⊎◌, ℕ, Bool, List, Option, Result, IfOk}
-use Rattle.exh_backup.specs.declared.fault.BackupFault.{BackupFault}
-use Rattle.exh_map.specs.declared.store_error.StoreError.{StoreError}
-use Rattle.exh_answer.specs.declared.status.Status.{Status}
-use Rattle.exh_answer.specs.declared.status.Status.TheVariants.{Refused}
+use Rattle.exh_transfer.specs.declared.BackupFault.{BackupFault}
+use Rattle.exh_transfer.specs.declared.StoreError.{StoreError}
+use Rattle.exh_transfer.specs.declared.Status.{Status}
+use Rattle.exh_transfer.specs.declared.Status.TheVariants.{Refused}
 use Rattle.exh_request.specs.declared.action.Action.{Action}
 use Rattle.exh_request.specs.declared.action.Action.TheVariants as actions
 use Rattle.exh_request.specs.declared.form.Form.{Form}
@@ -19,7 +19,7 @@ use Rattle.exh_everyday.specs.declared.change.Change.TheVariants.{Put, PutNew, R
 use Rattle.exh_everyday.specs.declared.found.Found.{Found}
 use Rattle.exh_everyday.specs.Changes.{IsAnswerTo}
 use Rattle.exh_everyday.specs.Founds.{AreOfKeys}
-use Rattle.exh_run.specs.Ends.{Ends, Silent, made_status}
+use Rattle.exh_transfer.specs.Ends.{Ends, Silent, made_status}
 use Rattle.exh_transfer.specs.Compacts.{CompactEnds}
 use Rattle.exh_transfer.specs.Counts.{StatsEnd}
 use Rattle.exh_transfer.specs.Exports.{ExportEnds}

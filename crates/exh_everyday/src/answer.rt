@@ -3,10 +3,9 @@ ghost use Rattle.std.specs.Prelude.{◌≡◌, IfOk};
 ghost use Rattle.exh_everyday.specs.Answers.{answer_line, answer_status, put_answer, put_new_answer, swap_answer, was_answer};
 
 use crate::shown::push_answer;
-use exh_answer::Status;
 use exh_page::Value;
 use exh_text::push_text;
-use exhash::{Put, PutNew, Swap};
+use exh_transfer::{Put, PutNew, Status, Swap};
 use std::alloc::{AllocError, Global};
 
 /// The answer to a change of one key.

@@ -3,10 +3,7 @@ ghost use Rattle.std.specs.Prelude.{◌≡◌};
 ghost use Rattle.exh_everyday.specs.Endings.{backup_status, copied_status};
 ghost use Rattle.exh_everyday.specs.Runs.{BackupEnds};
 
-use exh_answer::Status;
-use exh_backup::{backup_within, unread_at};
-use exh_run::{Run, tell_refused};
-use exhash::{BackupFault, StoreError};
+use exh_transfer::{BackupFault, Run, Status, StoreError, backup_within, tell_refused, unread_at};
 
 /// Copies one state of the page file to a new path at which nothing is.
 pub(crate) fn back_up(run: &Run<'_>, new: &str) -> Status

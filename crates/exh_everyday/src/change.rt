@@ -2,18 +2,16 @@
 ghost use Rattle.std.specs.Prelude.{◌≡◌, [], IfOk, IsFalse};
 ghost use Rattle.exh_stream.specs.Output.{SameWriter, held, pending, writer_failed};
 ghost use Rattle.exh_everyday.specs.Changes.{IsAnswerTo};
-ghost use Rattle.exh_run.specs.Ends.{Ends};
+ghost use Rattle.exh_transfer.specs.Ends.{Ends};
 ghost use Rattle.exh_everyday.specs.Endings.{change_ended};
 ghost use Rattle.exh_everyday.specs.Runs.{ChangeEnds};
 
 use crate::answer::Answer;
 use crate::changed_file::ChangedFile;
 use crate::printing::tell_answer;
-use exh_answer::Status;
 use exh_page::{Key, Value};
-use exh_run::{Run, refuse_change, save};
 use exh_stream::Output;
-use exhash::{Direct, Store, StoreError};
+use exh_transfer::{Direct, Run, Status, Store, StoreError, refuse_change, save};
 use std::io::Write;
 
 /// A change of one key.

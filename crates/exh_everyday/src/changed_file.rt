@@ -6,7 +6,7 @@ ghost use Rattle.exh_everyday.specs.declared.change.Change.TheVariants as asked;
 ghost use Rattle.exh_everyday.specs.Answers.{put_answer, put_new_answer, swap_answer, was_answer};
 
 use exh_page::Value;
-use exhash::{Direct, Put, PutNew, Store, StoreError, Swap};
+use exh_transfer::{Direct, Put, PutNew, Store, StoreError, Swap};
 
 /// A page file that answers changes of one key.
 pub(crate) trait ChangedFile {

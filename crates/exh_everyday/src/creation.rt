@@ -1,14 +1,13 @@
 //! The run of a create.
 ghost use Rattle.std.specs.Prelude.{◌≡◌};
-ghost use Rattle.exh_run.specs.Ends.{made_status};
+ghost use Rattle.exh_transfer.specs.Ends.{made_status};
 ghost use Rattle.exh_everyday.specs.Runs.{CreateEnds};
 
-use exh_answer::Status;
-use exh_disk::folder_of;
-use exh_notes::Escaped;
-use exh_run::{Run, is_nothing_at, made_status, tell_refused};
-use exh_system::pause_after;
-use exhash::{Settings, StoreError, make};
+use exh_saving::folder_of;
+use exh_text::Escaped;
+use exh_transfer::{
+    Run, Settings, Status, StoreError, is_nothing_at, made_status, make, pause_after, tell_refused,
+};
 use std::fs;
 use std::thread::sleep;
 use std::time::{Duration, Instant};

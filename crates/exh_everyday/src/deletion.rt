@@ -1,8 +1,8 @@
 //! The run of a del.
 ghost use Rattle.std.specs.Prelude.{◌≡◌, [], IfErr, IfOk, IsFalse, OnOk};
 ghost use Rattle.exh_stream.specs.Output.{SameWriter, held, pending, writer_failed};
-ghost use Rattle.exh_run.specs.Ends.{Ends};
-ghost use Rattle.exh_map.specs.CallFault.{IsWardFault};
+ghost use Rattle.exh_transfer.specs.Ends.{Ends};
+ghost use Rattle.exh_transfer.specs.CallFault.{IsWardFault};
 ghost use Rattle.exh_everyday.specs.Endings.{del_several_ended};
 ghost use Rattle.exh_everyday.specs.Founds.{AreOfKeys, AreTaken, IsTakenOne};
 ghost use Rattle.exh_everyday.specs.Runs.{DelEnds, DelSeveralEnds};
@@ -10,12 +10,10 @@ ghost use Rattle.exh_everyday.specs.Runs.{DelEnds, DelSeveralEnds};
 use crate::change::{Change, make_change};
 use crate::found::Found;
 use crate::printing::tell_found;
-use exh_answer::Status;
 use exh_page::Key;
 use exh_request::Keys;
-use exh_run::{Run, input_keys, refuse_change, save};
 use exh_stream::Output;
-use exhash::{Store, StoreError};
+use exh_transfer::{Run, Status, Store, StoreError, input_keys, refuse_change, save};
 use std::io::Write;
 
 // What stands between a key and the value that it had.

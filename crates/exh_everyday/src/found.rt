@@ -4,10 +4,10 @@ ghost use Rattle.exh_everyday.specs.Answers.{found_status, pair_line};
 ghost use Rattle.exh_everyday.specs.Founds.{IsPushed};
 
 use crate::shown::push_listed;
-use exh_answer::Status;
 use exh_calls::PackedPairs;
 use exh_page::{Key, Value};
 use exh_text::push_text;
+use exh_transfer::Status;
 use std::alloc::{AllocError, Global};
 
 /// What is found of keys, in their order: each key that is there with its value, and the keys that aren't.

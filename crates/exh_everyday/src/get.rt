@@ -2,22 +2,22 @@
 ghost use Rattle.std.specs.Prelude.{◌≡◌, [], IfOk, IsFalse};
 ghost use Rattle.exh_stream.specs.Output.{SameWriter, held, pending, writer_failed};
 ghost use Rattle.exh_everyday.specs.Answers.{value_text};
-ghost use Rattle.exh_run.specs.Ends.{Ends, Says};
+ghost use Rattle.exh_transfer.specs.Ends.{Ends, Says};
 ghost use Rattle.exh_everyday.specs.Endings.{get_ended, get_several_ended};
 ghost use Rattle.exh_everyday.specs.Runs.{GetEnds, GetOneEnds, GetSeveralEnds};
-ghost use Rattle.exh_answer.specs.declared.status.Status.TheVariants.{Done};
+ghost use Rattle.exh_transfer.specs.declared.Status.TheVariants.{Done};
 
 use crate::found::Found;
 use crate::key_values::values_at;
 use crate::printing::tell_found;
 use crate::shown::push_shown;
-use exh_answer::Status;
 use exh_page::{Key, Value};
 use exh_request::{Form, Keys};
-use exh_run::{Run, input_keys, refuse_reading, tell_absent, tell_text};
 use exh_stream::Output;
 use exh_text::push_text;
-use exhash::{Direct, StoreError};
+use exh_transfer::{
+    Direct, Run, Status, StoreError, input_keys, refuse_reading, tell_absent, tell_text,
+};
 use std::alloc::{AllocError, Global};
 use std::io::Write;
 

@@ -5,14 +5,9 @@ ghost use Rattle.exh_everyday.specs.Founds.{AreFoundIn, AreOfFile, AreOfKeys, Is
 use crate::found::Found;
 use crate::open_file::{OpenFile, SystemFile};
 use crate::wanted::Wanted;
-use exh_backup::unread_at;
 use exh_direct::DirectFault;
-use exh_in_place::Reading;
 use exh_page::{Key, Value};
-use exh_run::Run;
-use exh_system::Reason;
-use exh_walked::find_any;
-use exhash::{StoreError, read_beside};
+use exh_transfer::{Reading, Reason, Run, StoreError, find_any, read_beside, unread_at};
 use std::alloc::Global;
 use std::cell::Cell;
 use std::fs::File;

@@ -2,6 +2,11 @@
 //! where it is refused, and the status with which the program ends.
 #![tactic(auto)]
 
+pub use exh_transfer::{
+    Ending, FileWards, HeldFile, INPUT, JobPath, MAKER, OUT_OF_MEMORY, OtherSettings, Status,
+    Topic, console, convert, load, opened_at, path_of, print_last, print_line, print_out_of_memory,
+    save_new, save_of_job, tell_line, tell_path, tell_reason, warn,
+};
 pub use performing::perform;
 
 mod answer;

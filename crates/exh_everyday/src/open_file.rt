@@ -3,7 +3,7 @@ ghost use Rattle.std.specs.Prelude.{◌≡◌, ℕ, List, Option, None, IfErr, I
 ghost use Rattle.exh_direct.specs.declared.direct_fault.DirectFault.TheVariants.{Read};
 
 use exh_direct::{Blocks, DirectFault};
-use exh_system::{FileBlocks, Reason, with_reason};
+use exh_transfer::{FileBlocks, Reason, with_reason};
 use std::fs::File;
 
 /// An open page file, whose bytes stay the same meanwhile.

@@ -8,13 +8,10 @@ use crate::change::{Change, make_change};
 use crate::creation::create;
 use crate::deletion::delete;
 use crate::get::get;
-use exh_answer::Status;
 use exh_page::{Key, Value};
 use exh_request::{Action, NewValue, PutWhen, Request};
-use exh_run::{Run, input_value};
 use exh_stream::Output;
-use exh_system::Reason;
-use exh_transfer::{compact, export, import, salvage, stats};
+use exh_transfer::{Reason, Run, Status, compact, export, import, input_value, salvage, stats};
 use std::io::Write;
 
 /// Does what a request asks for: the answer goes to an output that holds nothing back, and what is refused, or absent, is said

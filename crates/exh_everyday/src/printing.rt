@@ -1,15 +1,14 @@
 //! What the everyday commands print of answers.
 ghost use Rattle.std.specs.Prelude.{◌≡◌, [], IsFalse};
 ghost use Rattle.exh_stream.specs.Output.{SameWriter, held, pending, writer_failed};
-ghost use Rattle.exh_run.specs.Ends.{Ends, Says};
+ghost use Rattle.exh_transfer.specs.Ends.{Ends, Says};
 ghost use Rattle.exh_everyday.specs.Answers.{answer_line, answer_status};
 ghost use Rattle.exh_everyday.specs.Endings.{found_ended};
 
 use crate::answer::Answer;
 use crate::found::Found;
-use exh_answer::Status;
-use exh_run::{Run, tell_absent, tell_text};
 use exh_stream::Output;
+use exh_transfer::{Run, Status, tell_absent, tell_text};
 use std::io::Write;
 
 /// Prints the answer to a change, which is saved where the change is made.

@@ -4,10 +4,10 @@ ghost use Rattle.std.specs.Prelude.{◌≡◌, ◌^◌, ℕ, length, IfOk};
 ghost use Rattle.std.specs.FinMap as map;
 ghost use Rattle.exh_keyer.specs.Pseudokey.{plain_pseudokey};
 ghost use Rattle.exh_copy.specs.Additions.{AreOf};
-ghost use Rattle.exh_live_file.specs.LiveFile.{IsNewWardOf};
-ghost use Rattle.exh_live_file.specs.declared.ledgers.TheConstants.{ANSWER_PARTS, ENTRY_PARTS};
+ghost use Rattle.exh_live.specs.LiveFile.{IsNewWardOf};
+ghost use Rattle.exh_live.specs.declared.ledgers.TheConstants.{ANSWER_PARTS, ENTRY_PARTS};
 
-use exh_callers::{
+use crate::{
     CAP, Caller, File, Reader, Writer, close, is_carried, is_told, keep, next_caller,
     one_ward_file, settled,
 };
@@ -15,7 +15,7 @@ use exh_calls::Reply;
 use exh_copy::{NewCopyFault, Start, new_copy};
 use exh_fixtures::{Asked, BrokenPages, Difference, Part, Said, first_store, same};
 use exh_keyer::{Keyer, PlainKeyer};
-use exh_live_file::{ANSWER_PARTS, Cursors, ENTRY_PARTS, Identity};
+use exh_live::{ANSWER_PARTS, Cursors, ENTRY_PARTS, Identity};
 use exh_prefix::PageNo;
 use exh_table::Table;
 use exh_walk::OpenGate;

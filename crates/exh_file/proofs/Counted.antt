@@ -1,10 +1,10 @@
 -- Faults of a page out of reach that are handed on, behind which a store has counted.
 use Rattle.std.proofs.Common.{◌≡◌, Result, Ok, Err, IfErr, refl}
 use Rattle.std.specs.Prelude.{◌≢◌, IsErr, IsErrAnd}
-use Rattle.exh_file_faults.specs.DraftFault.{draft_fault_of}
-use Rattle.exh_file_faults.specs.declared.draft_fault.DraftFault.TheVariants.{Page}
-use Rattle.exh_file_faults.specs.declared.save_fault.SaveFault.{SaveFault}
-use Rattle.exh_file_faults.specs.declared.save_fault.SaveFault.TheVariants as save
+use Rattle.exh_file.specs.DraftFault.{draft_fault_of}
+use Rattle.exh_file.specs.declared.draft_fault.DraftFault.TheVariants.{Page}
+use Rattle.exh_file.specs.declared.save_fault.SaveFault.{SaveFault}
+use Rattle.exh_file.specs.declared.save_fault.SaveFault.TheVariants as save
 
 -- a refusal that is handed on as another
 pub handed_on : {T F : Type 0} (From To : F → Type 0) → ((fault : F) → From fault → To fault) → (result : Result T F) → IsErr result × IsErrAnd result From → IfErr result To

@@ -7,12 +7,12 @@ use Rattle.std.proofs.Math.Seq.{take-append_seam}
 use Rattle.exh_prefix.specs.PrefixListLemmas.{one_there, set_here, set_else}
 use Rattle.exh_keyer.specs.declared.any_keyer.AnyKeyer.{AnyKeyer}
 use Rattle.exh_ward.specs.WardState.{IsUnchanged, WardState}
-use Rattle.exh_settings.specs.declared.file_settings.FileSettings.{FileSettings}
+use Rattle.exh_page.specs.declared.file_settings.FileSettings.{FileSettings}
 use Rattle.exh_file.specs.Opened.{AreWardsOf, IsWardOf, OpenedState, in_file, settings_in}
-use Rattle.exh_file_faults.specs.SaveFault.{CountsSaveFailures}
+use Rattle.exh_file.specs.SaveFault.{CountsSaveFailures}
 use Rattle.exh_file.specs.Saved.{AreUnchanged, failures_in}
-use Rattle.exh_file_faults.specs.declared.save_fault.SaveFault.{SaveFault}
-use Rattle.exh_file_faults.specs.declared.save_fault.SaveFault.TheVariants.{Write, Page, Memory}
+use Rattle.exh_file.specs.declared.save_fault.SaveFault.{SaveFault}
+use Rattle.exh_file.specs.declared.save_fault.SaveFault.TheVariants.{Write, Page, Memory}
 use Rattle.exh_file.proofs.Lists.{sum_of-set}
 
 -- ---- wards of which one was touched

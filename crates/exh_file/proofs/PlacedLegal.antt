@@ -22,8 +22,8 @@ use Rattle.exh_legal.specs.ReasonLaws.{IsLegalFile, LegalFilesPass}
 use Rattle.exh_codec.specs.PageImage.{IsInRange, IsPage}
 use Rattle.exh_format.specs.FileVersion.{written_format}
 use Rattle.exh_format.specs.HeaderImage.{IsHeader}
-use Rattle.exh_cells.specs.PlacedFile.{IsPlaced, placed_bytes}
-use Rattle.exh_cells.specs.StampedHeader.{IsStampedHeader}
+use Rattle.exh_placing.specs.PlacedFile.{IsPlaced, placed_bytes}
+use Rattle.exh_placing.specs.StampedHeader.{IsStampedHeader}
 use Rattle.exh_placing.specs.declared.page_at.PageAt.{PageAt}
 use Rattle.exh_placing.specs.Order.{BeginsWithFirsts, own_in}
 use Rattle.exh_placing.specs.PlacingLaws.{OrdersGivePages}

@@ -3,8 +3,8 @@ use Rattle.std.proofs.Common.{◌≡◌, ℕ, suc, List, [], ◌∷◌, length, 
 use Rattle.exh_keyer.specs.declared.any_keyer.AnyKeyer.{AnyKeyer}
 use Rattle.exh_table.specs.Table.{TableMap}
 use Rattle.exh_page.specs.declared.page.Page.{Page}
-use Rattle.exh_cells.specs.CellLaws.{AreTold}
-use Rattle.exh_cells.specs.PlacedFile.{lows_of}
+use Rattle.exh_placing.specs.CellLaws.{AreTold}
+use Rattle.exh_placing.specs.PlacedFile.{lows_of}
 use Rattle.exh_placing.specs.Order.{BeginsWithFirsts, IsOrderOf}
 use Rattle.exh_placing.specs.WardFile.{pages_named}
 use Rattle.exh_ward.specs.WardState.{IsUnchanged, WardState}

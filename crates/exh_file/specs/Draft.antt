@@ -2,7 +2,7 @@
 use Rattle.std.specs.Prelude.{◌≡◌, ⊤, ℕ, List, [], length, map, take}
 use Rattle.exh_format.specs.FileVersion.{written_format}
 use Rattle.exh_format.specs.PageFile.{file_bytes}
-use Rattle.exh_cells.specs.PlacedFile.{lows_of, placed_bytes}
+use Rattle.exh_placing.specs.PlacedFile.{lows_of, placed_bytes}
 use Rattle.exh_placing.specs.declared.page_at.PageAt.{PageAt}
 use Rattle.exh_placing.specs.Order.{first_pages, with_others}
 use Rattle.exh_file.specs.declared.placing.Form.{Form}

@@ -1,3 +1,10 @@
+pub use Rattle.exh_placing.specs.Places
+pub use Rattle.exh_placing.specs.StampedHeader
+pub use Rattle.exh_text.specs.Numbers
+pub use Rattle.exh_text.specs.TextLines
+pub use Rattle.exh_versions.specs.LegalBytes
+pub use Rattle.exh_versions.specs.VersionLaws
+pub use Rattle.exh_versions.specs.VersionLemmas
 -- the definitions of page files, of which the clauses here speak
 pub use Rattle.exh_format.specs.FileParts
 pub use Rattle.exh_format.specs.FileTests
@@ -9,9 +16,6 @@ pub use Rattle.exh_format.specs.ReadFileFault
 pub use Rattle.exh_format.specs.Reading
 pub use Rattle.exh_format.specs.Writing
 -- the faults of opening and of writing
-pub use Rattle.exh_file_faults.specs.OpenFault
-pub use Rattle.exh_file_faults.specs.SaveFault
-pub use Rattle.exh_file_faults.specs.DraftFault
 pub mod Opened
 pub mod Opening
 pub mod WardChange
@@ -30,3 +34,7 @@ pub mod Placing
 pub mod Draft
 pub mod LeftLemmas
 pub mod Reopened
+pub mod OpenFault
+pub mod SaveFault
+pub mod DraftFault
+pub mod FileLimits

@@ -3,7 +3,7 @@ use Rattle.std.specs.Prelude.{◌≡◌, ℕ, ◌^◌, ◌≤◌, List, length, 
 use Rattle.exh_prefix.specs.declared.prefix.TheConstants.{WARD_BITS_LIMIT}
 use Rattle.exh_keyer.specs.declared.any_keyer.AnyKeyer.{AnyKeyer}
 use Rattle.exh_page.specs.declared.page.TheConstants.{CAP_LIMIT}
-use Rattle.exh_settings.specs.declared.file_settings.FileSettings.{FileSettings}
+use Rattle.exh_page.specs.declared.file_settings.FileSettings.{FileSettings}
 use Rattle.exh_ward.specs.WardState.{WardState}
 
 pub record OpenedState : Type 0 where

@@ -18,8 +18,8 @@ use Rattle.exh_versions.specs.FileForm.{IsFormOf}
 use Rattle.exh_versions.specs.FirstFault.{IsFirstFaultOf}
 use Rattle.exh_versions.specs.LegalBytes.{IsLegalBytes}
 use Rattle.exh_versions.specs.declared.file_form.FileForm.{FileForm}
-use Rattle.exh_file_faults.specs.declared.open_fault.OpenFault.{OpenFault}
-use Rattle.exh_file_faults.specs.declared.open_fault.OpenFault.TheVariants.{File, Page as OutOfReach}
+use Rattle.exh_file.specs.declared.open_fault.OpenFault.{OpenFault}
+use Rattle.exh_file.specs.declared.open_fault.OpenFault.TheVariants.{File, Page as OutOfReach}
 use Rattle.exh_file.specs.Opened.{OpenedState}
 
 -- ---- one ward

@@ -3,10 +3,10 @@ use Rattle.std.specs.Prelude.{◌≡◌, ℕ, ◌^◌, ◌<◌, List, [], length
 use Rattle.exh_keyer.specs.declared.any_keyer.AnyKeyer.{AnyKeyer}
 use Rattle.exh_table.specs.Table.{TableMap}
 use Rattle.exh_page.specs.declared.page.Page.{Page}
-use Rattle.exh_cells.specs.declared.stamped_header.StampedHeader.{StampedHeader}
-use Rattle.exh_cells.specs.CellLaws.{AreTold}
-use Rattle.exh_cells.specs.LegalPlaced.{IsLegalPlacedFile, wards_of}
-use Rattle.exh_cells.specs.PlacedFile.{PlacedFile, lows_of}
+use Rattle.exh_placing.specs.declared.StampedHeader.{StampedHeader}
+use Rattle.exh_placing.specs.CellLaws.{AreTold}
+use Rattle.exh_placing.specs.LegalPlaced.{IsLegalPlacedFile, wards_of}
+use Rattle.exh_placing.specs.PlacedFile.{PlacedFile, lows_of}
 use Rattle.exh_placing.specs.declared.page_at.PageAt.{PageAt}
 use Rattle.exh_placing.specs.Order.{BeginsWithFirsts, IsOrderOf, IsOrderOfLows, IsWithin, with_others}
 use Rattle.exh_placing.specs.WardFile.{pages_named}

@@ -2,11 +2,11 @@ ghost use Rattle.std.specs.Prelude.{◌≡◌, ◌≢◌, length, take, IfErr, I
 ghost use Rattle.std.specs.Io.KnownBytes.{Appends};
 ghost use Rattle.exh_stream.specs.Output.{AppendsBeginning};
 ghost use Rattle.exh_file.specs.declared.placing.Form.TheVariants.{Placed, Plain};
-ghost use Rattle.exh_cells.specs.PlacedFile.{lows_of, placed_bytes};
+ghost use Rattle.exh_placing.specs.PlacedFile.{lows_of, placed_bytes};
 ghost use Rattle.exh_file.specs.Draft.{IsAnew, IsDraftLeft, IsDraftSaving, IsDraftedSo, IsGrown, IsSaving, bytes_as, bytes_in};
 ghost use Rattle.exh_file.specs.Opened.{AreWardsOf, in_file};
 ghost use Rattle.exh_file.specs.Placing.{HavePages, IsPlacedSaving, IsPlacingOf, IsWardOrder, ordered_pages, placed_file};
-ghost use Rattle.exh_file_faults.specs.SaveFault.{CountsSaveFailures};
+ghost use Rattle.exh_file.specs.SaveFault.{CountsSaveFailures};
 ghost use Rattle.exh_file.specs.Saved.{AreSound, AreUnchanged, HasCountedOf, failures_in};
 
 use crate::placed_saving::write_placed;
@@ -14,8 +14,8 @@ use crate::placing::{Form, Placing, Stamps};
 use crate::placing_making::{new_order, order_grown, placing_in};
 use crate::{DraftFault, Opened, SaveFault, write_file};
 use exh_keyer::AnyKeyer;
+use exh_page::FileSettings;
 use exh_placing::PageAt;
-use exh_settings::FileSettings;
 use exh_stores::Pages;
 use exh_stream::Output;
 use exh_ward::Ward;

@@ -6,8 +6,8 @@ ghost use Rattle.exh_ward.specs.WardFault.{IsStoreFault};
 use crate::{Opened, change_ward};
 use exh_calls::{Call, Reply};
 use exh_keyer::{AnyKeyer, Keyer};
+use exh_page::FileSettings;
 use exh_prefix::ward_number;
-use exh_settings::FileSettings;
 use exh_stores::Pages;
 use exh_ward::{Ward, WardFault};
 

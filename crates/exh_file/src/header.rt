@@ -11,7 +11,7 @@ ghost use Rattle.exh_file.specs.Saved.{AreSound, counts_in, entries_of_all, head
 use exh_format::{COUNTS_LEN, Header};
 use exh_keyer::AnyKeyer;
 use exh_legal::entries_are_few;
-use exh_settings::FileSettings;
+use exh_page::FileSettings;
 use exh_stores::Pages;
 use exh_table::Table;
 use exh_ward::Ward;

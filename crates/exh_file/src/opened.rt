@@ -5,7 +5,7 @@ ghost use Rattle.exh_file.specs.Saved.{header_of};
 use crate::header::header_of;
 use exh_format::Header;
 use exh_keyer::AnyKeyer;
-use exh_settings::FileSettings;
+use exh_page::FileSettings;
 use exh_stores::Pages;
 use exh_ward::Ward;
 use std::marker::Model;

@@ -8,7 +8,7 @@ ghost use Rattle.exh_format.specs.Reading.{AreBytes, IsAll};
 ghost use Rattle.exh_legal.specs.ReasonLaws.{IsLegalFile};
 ghost use Rattle.exh_format.specs.LegalFile.{parts_in, ward_tables};
 ghost use Rattle.exh_versions.specs.LegalBytes.{IsLegalBytes};
-ghost use Rattle.exh_file_faults.specs.OpenFault.{HasCounted, HasCountedOne, IsCounted, IsOtherOpening};
+ghost use Rattle.exh_file.specs.OpenFault.{HasCounted, HasCountedOne, IsCounted, IsOtherOpening};
 ghost use Rattle.exh_file.specs.Opening.{AreLegalWards, AreOpened, IsLegalWard, IsOpenFaultOf, IsOpenedAs, IsOpenedFile, IsOpenedWard};
 
 use crate::{OpenFault, Opened};
@@ -16,7 +16,7 @@ use exh_codec::ReadPages;
 use exh_format::{Header, LegalFile, push_item};
 use exh_keyer::AnyKeyer;
 use exh_legal::legal_files_pass;
-use exh_settings::FileSettings;
+use exh_page::FileSettings;
 use exh_stores::{Pages, StoreMaker};
 use exh_table::Table;
 use exh_versions::{AnyFile, FileForm, legal_bytes_are_files, read_any_file};

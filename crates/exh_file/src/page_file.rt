@@ -5,10 +5,10 @@ ghost use Rattle.exh_format.specs.FileVersion.{written_format};
 ghost use Rattle.exh_format.specs.PageFile.{PageFile, file_bytes};
 ghost use Rattle.exh_format.specs.Reading.{AreBytes, IsAll};
 ghost use Rattle.exh_versions.specs.LegalBytes.{IsLegalBytes};
-ghost use Rattle.exh_file_faults.specs.OpenFault.{IsOtherOpening};
+ghost use Rattle.exh_file.specs.OpenFault.{IsOtherOpening};
 ghost use Rattle.exh_file.specs.Opening.{IsOpenFaultOf, IsOpenedAs, IsOpenedFile};
 ghost use Rattle.exh_file.specs.Reopened.{IsKept, IsWrittenAgain};
-ghost use Rattle.exh_file_faults.specs.SaveFault.{CountsSaveFailures};
+ghost use Rattle.exh_file.specs.SaveFault.{CountsSaveFailures};
 ghost use Rattle.exh_file.specs.Saved.{IsLeft, failures_in, written_file};
 
 use crate::{OpenFault, Opened, SaveFault, open_form_over, open_over, write_wards};

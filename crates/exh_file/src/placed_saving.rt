@@ -5,30 +5,30 @@ ghost use Rattle.exh_prefix.specs.Layout.{written_version};
 ghost use Rattle.exh_stream.specs.Output.{AppendsBeginning, SameWriter, Takes, TakesBeginning, held, pending, writer_failed};
 ghost use Rattle.exh_codec.specs.PageImage.{IsInRange};
 ghost use Rattle.exh_format.specs.PageFile.{page_block};
-ghost use Rattle.exh_cells.specs.PlacedFile.{placed_bytes};
-ghost use Rattle.exh_cells.specs.StampedHeader.{IsStampedHeader};
+ghost use Rattle.exh_placing.specs.PlacedFile.{placed_bytes};
+ghost use Rattle.exh_placing.specs.StampedHeader.{IsStampedHeader};
 ghost use Rattle.exh_placing.specs.WardFile.{ArePagesOf};
 ghost use Rattle.exh_placing.specs.Writing.{opening, place_bytes};
 ghost use Rattle.exh_stores.specs.PageStore.{IfPage};
 ghost use Rattle.exh_file.specs.Opened.{AreWardsOf, in_file};
 ghost use Rattle.exh_file.specs.Placing.{IsPlacedSaving, IsPlacingOf, ordered_pages, own_pages, placed_file, stamped_header};
-ghost use Rattle.exh_file_faults.specs.SaveFault.{CountsSaveFailures};
+ghost use Rattle.exh_file.specs.SaveFault.{CountsSaveFailures};
 ghost use Rattle.exh_file.specs.Saved.{AreSound, AreUnchanged, HasCaps, failures_in, pages_of_all};
 
 use crate::SaveFault;
 use crate::header::header_of;
 use crate::placing::{Placing, Stamps};
 use crate::saving::read_block;
-use exh_cells::{Cell, StampedHeader};
 use exh_codec::BLOCK_LEN;
 use exh_keyer::AnyKeyer;
 use exh_legal::{
     fitting_tables_begin_wards, legal_files_pass, legal_tables_have_room, pages_are_few,
 };
+use exh_page::FileSettings;
 use exh_placing::{
-    PageAt, legal_wards_give_files, orders_give_pages, places_make_files, write_header, write_place,
+    Cell, PageAt, StampedHeader, legal_wards_give_files, orders_give_pages, places_make_files,
+    write_header, write_place,
 };
-use exh_settings::FileSettings;
 use exh_stores::Pages;
 use exh_stream::Output;
 use exh_ward::Ward;

@@ -1,5 +1,4 @@
-use exh_cells::Cell;
-use exh_placing::PageAt;
+use exh_placing::{Cell, PageAt};
 
 /// Which state of which file a file of version 3 is.
 #[derive(Clone, Copy, Debug)]

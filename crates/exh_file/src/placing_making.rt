@@ -2,9 +2,9 @@
 ghost use Rattle.std.specs.Prelude.{◌≡◌, ◌≢◌, ◌<◌, ◌≤◌, ◌↔◌, ℕ, length, map, take, get_or, slice_get, slice_index, Some, IfErr, IfNone, IfOk, IfSome, IsTrue};
 ghost use Rattle.exh_placing.specs.declared.page_at.PageAt.{PageAt as PageAtValue};
 ghost use Rattle.exh_placing.specs.Order.{BeginsWithFirsts, IsNumbered, IsOrderOf, IsOrderOfLows, IsWithin, first_pages, with_others};
-ghost use Rattle.exh_cells.specs.declared.fit.TheConstants.{COUNTS_LEN};
+ghost use Rattle.exh_placing.specs.GroupSizes.{COUNTS_LEN};
 ghost use Rattle.exh_prefix.specs.declared.prefix.TheConstants.{WARD_BITS_LIMIT};
-ghost use Rattle.exh_cells.specs.PlacedFile.{lows_of};
+ghost use Rattle.exh_placing.specs.PlacedFile.{lows_of};
 ghost use Rattle.exh_file.specs.Opened.{AreWardsOf, in_file};
 ghost use Rattle.exh_file.specs.Placing.{HavePages, IsGrownOrder, IsPlacedSo, IsWardOrder, ordered_pages};
 ghost use Rattle.exh_file.specs.Saved.{AreSound, HasCountedOf, counts_in, pages_of_all};
@@ -16,12 +16,12 @@ use crate::ward_lows::lows_in;
 use crate::ward_tables::WardTables;
 use exh_keyer::AnyKeyer;
 use exh_legal::{fitting_tables_begin_wards, pages_are_few};
+use exh_page::FileSettings;
 use exh_placing::{
     PageAt, cells_of_tables, first_order, grown_order, legal_wards_have_places, order_of_lows,
     orders_give_pages,
 };
 use exh_prefix::PageNo;
-use exh_settings::FileSettings;
 use exh_stores::Pages;
 use exh_ward::Ward;
 use std::alloc::{AllocError, Global};

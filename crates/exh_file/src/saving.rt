@@ -16,7 +16,7 @@ ghost use Rattle.exh_format.specs.declared.header.TheConstants.{COUNTS_LEN};
 ghost use Rattle.exh_ward.specs.WardState.{IsUnchanged};
 ghost use Rattle.exh_file.specs.Opened.{AreWardsOf, in_file};
 ghost use Rattle.exh_file.specs.Reopened.{IsKept, IsWrittenAgain};
-ghost use Rattle.exh_file_faults.specs.SaveFault.{CountsSaveFailures};
+ghost use Rattle.exh_file.specs.SaveFault.{CountsSaveFailures};
 ghost use Rattle.exh_file.specs.Saved.{AreInOrder, AreShort, AreUnchanged, HasCaps, entries_of_all, failures_in, file_entry, written_file, file_with, pages_of_all};
 
 use crate::SaveFault;
@@ -27,8 +27,8 @@ use exh_keyer::AnyKeyer;
 use exh_legal::{
     fitting_tables_begin_wards, legal_files_pass, legal_tables_have_room, pages_are_few,
 };
+use exh_page::FileSettings;
 use exh_prefix::PageNo;
-use exh_settings::FileSettings;
 use exh_stores::Pages;
 use exh_stream::{Output, WriteFault};
 use exh_table::Table;

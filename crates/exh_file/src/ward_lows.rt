@@ -2,7 +2,7 @@
 ghost use Rattle.std.specs.Prelude.{◌≡◌, ◌≢◌, ◌<◌, length, IfErr, IfOk};
 ghost use Rattle.exh_page.specs.Page.{low_bound};
 ghost use Rattle.exh_stores.specs.PageStore.{IfPage};
-ghost use Rattle.exh_cells.specs.PlacedFile.{lows_of};
+ghost use Rattle.exh_placing.specs.PlacedFile.{lows_of};
 ghost use Rattle.exh_placing.specs.WardFile.{ArePagesOf};
 ghost use Rattle.exh_file.specs.Placing.{ordered_pages, own_pages};
 ghost use Rattle.exh_file.specs.Saved.{HasCountedOf, pages_of_all};

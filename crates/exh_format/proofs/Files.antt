@@ -10,8 +10,8 @@ use Rattle.std.specs.Io.KnownBytes.{Consumes, IsAtEnd}
 use Rattle.std.proofs.KnownBytes.{Consumes-trans, Consumes-whole}
 use Rattle.exh_format.specs.FileParts.{pages_read}
 use Rattle.exh_keyer.specs.Pseudokey.{any_pseudokey}
-use Rattle.exh_notice.specs.declared.entry.Kind.TheVariants.{Merge}
-use Rattle.exh_page.specs.declared.page.Page.{Page}
+use Rattle.exh_legal.specs.declared.Kind.TheVariants.{Merge}
+use Rattle.exh_legal.specs.declared.Page.{Page}
 use Rattle.exh_codec.specs.PageImage.{IsPage}
 use Rattle.exh_codec.specs.CodecLaws.{ImagesAreBlocks, ImagesPass}
 use Rattle.exh_format.specs.declared.file_entry.FileEntry.{FileEntry}

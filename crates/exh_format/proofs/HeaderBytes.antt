@@ -9,12 +9,12 @@ use Rattle.byteorder.specs.Endian.{big_bytes, big_from}
 use Rattle.byteorder.specs.Numbers.{big_from-take, big_number-reads_back}
 use Rattle.exh_keyer.specs.declared.any_keyer.AnyKeyer.{AnyKeyer}
 use Rattle.exh_keyer.specs.declared.any_keyer.AnyKeyer.TheVariants.{Plain, Sha}
-use Rattle.exh_notice.specs.NoticeByteLemmas.{items_all, items-drop, items-add, items-agree, bytes_of_number, big_from-drop}
-use Rattle.exh_notice.specs.NoticeImages.{items}
+use Rattle.exh_legal.specs.NoticeByteLemmas.{items_all, items-drop, items-add, items-agree, bytes_of_number, big_from-drop}
+use Rattle.exh_legal.specs.NoticeImages.{items}
 use Rattle.exh_codec.specs.Block.{AreZero}
 use Rattle.exh_format.specs.declared.header.Header.{Header}
 use Rattle.exh_format.specs.FileVersion.{FileVersion, FitsFile}
-use Rattle.exh_settings.specs.Keyers.{keyer_byte}
+use Rattle.exh_legal.specs.Keyers.{keyer_byte}
 use Rattle.exh_format.specs.HeaderImage.{IsHeader, IsPageCount, front_bytes, header_bytes}
 use Rattle.exh_format.specs.HeaderTests.{HasMagic, IsOfVersion, IsReadHeader}
 use Rattle.exh_prefix.specs.PrefixListLemmas.{AllByRecursion-weaker}

@@ -2,7 +2,7 @@
 use Rattle.std.proofs.Common.{◌≡◌, ℕ, ◌<◌, List, [], ◌∷◌, ◌++◌, length, take, replicate, ◌-◌, slice_index, drop, sym, refl, ◌∙◌, append_assoc, subst, arith}
 use Rattle.std.specs.List.{AllByRecursion, flat_map}
 use Rattle.byteorder.specs.Endian.{big_bytes}
-use Rattle.exh_notice.specs.NoticeImages.{items}
+use Rattle.exh_legal.specs.NoticeImages.{items}
 use Rattle.exh_codec.specs.declared.image_fault.ImageFault.TheVariants as images
 use Rattle.exh_codec.specs.Block.{IsSealed, AreZero}
 use Rattle.exh_codec.specs.BlockLemmas.{length-padded, padded_front, padded_rest, padded_from, sealed_content, sealed_is_sealed, sealed_from}

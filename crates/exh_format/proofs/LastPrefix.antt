@@ -11,9 +11,9 @@ use Rattle.exh_prefix.specs.PrefixByteLemmas.{power_of_bytes}
 use Rattle.exh_prefix.specs.Prefix.{zeros}
 use Rattle.exh_prefix.specs.PrefixLemmas.{take-low_of-word}
 use Rattle.exh_prefix.specs.Version.{Version, Fits, field_low}
-use Rattle.exh_notice.specs.NoticeByteLemmas.{big_from-drop}
-use Rattle.exh_notice.specs.NoticeImages.{prefix_field, right_field}
-use Rattle.exh_notice.specs.ImageLemmas.{length-entry_image, prefix_field-low}
+use Rattle.exh_legal.specs.NoticeByteLemmas.{big_from-drop}
+use Rattle.exh_legal.specs.NoticeImages.{prefix_field, right_field}
+use Rattle.exh_legal.specs.ImageLemmas.{length-entry_image, prefix_field-low}
 use Rattle.exh_codec.specs.PageImage.{padded}
 use Rattle.sha2.specs.Sha256.{sha256}
 use Rattle.exh_format.specs.declared.file_entry.FileEntry.{FileEntry}

@@ -1,7 +1,7 @@
 -- What is answered of the bytes of a legal file.
 use Rattle.std.proofs.Common.{◌≡◌, ℕ, List, Option, Some, Result, Ok, Err, sym, subst}
 use Rattle.std.specs.Prelude.{IfErr, IfOk, MatchResult}
-use Rattle.exh_page.specs.declared.page.Page.{Page}
+use Rattle.exh_legal.specs.declared.Page.{Page}
 use Rattle.exh_format.specs.FileVersion.{format_of, version_of}
 use Rattle.exh_format.specs.FileVersionLemmas.{known_file_fits}
 use Rattle.exh_format.specs.FileParts.{file_read}

@@ -7,7 +7,7 @@ use Rattle.std.proofs.lemmas.Bool.Decides.{eqb_tells}
 use Rattle.std.proofs.lemmas.List.{drop_more, ext_get_or, get_or-set_other, get_or-set_same, get_or_read, take-append-drop, take_more}
 use Rattle.std.proofs.lemmas.List.FromFn.{get_or-map-range_with_len, length-map-range_with_len, take-map-range_with_len}
 use Rattle.exh_prefix.specs.Prefix.{prefix_cmp}
-use Rattle.exh_table.specs.Table.{TableMap, raised}
+use Rattle.exh_legal.specs.Table.{TableMap, raised}
 use Rattle.exh_format.specs.declared.file_entry.FileEntry.{FileEntry}
 use Rattle.exh_format.specs.RisingLemmas.{all_before}
 use Rattle.exh_format.specs.TableImage.{AreRising, prefixes_of}

@@ -4,7 +4,7 @@ use Rattle.std.proofs.lemmas.List.{take_at, drop_at, length-take, length-drop}
 use Rattle.std.specs.List.{AllByRecursion, flat_map, sum}
 use Rattle.exh_keyer.specs.Pseudokey.{any_pseudokey}
 use Rattle.exh_prefix.specs.Version.{Fits}
-use Rattle.exh_page.specs.declared.page.Page.{Page}
+use Rattle.exh_legal.specs.declared.Page.{Page}
 use Rattle.exh_codec.specs.PageImage.{IsImage, IsPage}
 use Rattle.exh_codec.specs.CodecLaws.{ImagesAreBlocks, OnePage}
 use Rattle.exh_format.specs.declared.file_entry.FileEntry.{FileEntry}

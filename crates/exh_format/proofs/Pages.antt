@@ -9,7 +9,7 @@ use Rattle.std.specs.List.{flat_map, sum}
 use Rattle.std.specs.Io.KnownBytes.{Consumes}
 use Rattle.std.proofs.KnownBytes.{Consumes-nil, Consumes-trans}
 use Rattle.exh_prefix.specs.Version.{Version}
-use Rattle.exh_page.specs.declared.page.Page.{Page}
+use Rattle.exh_legal.specs.declared.Page.{Page}
 use Rattle.exh_codec.specs.PageImage.{IsImage, IsPage}
 use Rattle.exh_format.specs.declared.file_fault.FileFault.{FileFault}
 use Rattle.exh_format.specs.declared.read_file_fault.ReadFileFault.{ReadFileFault}

@@ -11,9 +11,9 @@ use Rattle.exh_prefix.specs.declared.version.Version.{Version as KnownVersion}
 use Rattle.exh_prefix.specs.Layout.{layout}
 use Rattle.exh_prefix.specs.LayoutLemmas.{layout_short}
 use Rattle.exh_keyer.specs.Pseudokey.{any_pseudokey}
-use Rattle.exh_page.specs.declared.page.Page.{Page}
-use Rattle.exh_page.specs.declared.page.Page.TheVariants.{Live, Forward}
-use Rattle.exh_page.specs.Page.{IsWellFormed}
+use Rattle.exh_legal.specs.declared.Page.{Page}
+use Rattle.exh_legal.specs.declared.Page.TheVariants.{Live, Forward}
+use Rattle.exh_legal.specs.Page.{IsWellFormed}
 use Rattle.exh_legal.specs.MapLemmas.{page_at}
 use Rattle.exh_codec.specs.PageImage.{IsBlockOf, IsImage, IsPage}
 use Rattle.exh_format.specs.PageFile.{IsKnownFile, PageFile, pages_of}

@@ -2,7 +2,7 @@
 use Rattle.std.proofs.Common.{◌≡◌, ℕ, zero, suc, List, [], ◌∷◌, ◌++◌, length, take, drop, refl, sym, ap, ◌∙◌, subst, take-append-drop, arith}
 use Rattle.std.specs.List.{AllByRecursion, flat_map}
 use Rattle.exh_prefix.specs.Version.{Version, Fits}
-use Rattle.exh_notice.specs.ImageLemmas.{same_in_four}
+use Rattle.exh_legal.specs.ImageLemmas.{same_in_four}
 use Rattle.exh_codec.specs.Block.{sealed}
 use Rattle.exh_codec.specs.PageImage.{padded}
 use Rattle.exh_format.specs.declared.file_entry.FileEntry.{FileEntry}

@@ -4,12 +4,12 @@ use Rattle.std.specs.List.{AllByRecursion, flat_map}
 use Rattle.std.proofs.lemmas.List.{take_at, drop_at, drop-drop, take-append-drop, length-append}
 use Rattle.std.proofs.lemmas.List.Concat.{flat_map-append}
 use Rattle.exh_prefix.specs.Version.{Version, Fits}
-use Rattle.exh_notice.specs.declared.entry.Entry.{Entry}
-use Rattle.exh_notice.specs.declared.entry.Kind.{Kind}
-use Rattle.exh_notice.specs.declared.entry.Kind.TheVariants.{Merge, Split}
-use Rattle.exh_notice.specs.NoticeImages.{IsEntryImage, entry_image, kind_byte}
-use Rattle.exh_notice.specs.ImageLemmas.{length-entry_image}
-use Rattle.exh_notice.specs.ImageLemmas as images
+use Rattle.exh_legal.specs.declared.Entry.{Entry}
+use Rattle.exh_legal.specs.declared.Kind.{Kind}
+use Rattle.exh_legal.specs.declared.Kind.TheVariants.{Merge, Split}
+use Rattle.exh_legal.specs.NoticeImages.{IsEntryImage, entry_image, kind_byte}
+use Rattle.exh_legal.specs.ImageLemmas.{length-entry_image}
+use Rattle.exh_legal.specs.ImageLemmas as images
 use Rattle.exh_format.specs.declared.file_entry.FileEntry.{FileEntry}
 use Rattle.exh_format.specs.TableImage.{IsFileEntry, image_of, AreEntries}
 use Rattle.exh_prefix.specs.PrefixListLemmas.{AllByRecursion-push}

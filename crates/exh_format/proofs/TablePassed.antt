@@ -6,10 +6,10 @@ use Rattle.std.specs.Option.{option_to_list}
 use Rattle.std.proofs.lemmas.Bool.{cases_lt}
 use Rattle.std.proofs.lemmas.List.{get_or-take, get_or-drop, get_or_past, length-take, length-take-le, length-drop}
 use Rattle.exh_prefix.specs.Version.{Version, Fits}
-use Rattle.exh_notice.specs.declared.notice_fault.NoticeFault.{NoticeFault}
-use Rattle.exh_notice.specs.declared.notice_fault.NoticeFault.TheVariants as entries
-use Rattle.exh_notice.specs.NoticeImages.{FailsFirst, PassesAll}
-use Rattle.exh_notice.specs.ImageLemmas.{entry_passes, image_passes, image_from_tests}
+use Rattle.exh_legal.specs.declared.NoticeFault.{NoticeFault}
+use Rattle.exh_legal.specs.declared.NoticeFault.TheVariants as entries
+use Rattle.exh_legal.specs.NoticeImages.{FailsFirst, PassesAll}
+use Rattle.exh_legal.specs.ImageLemmas.{entry_passes, image_passes, image_from_tests}
 use Rattle.exh_codec.specs.declared.image_fault.ImageFault.{ImageFault}
 use Rattle.exh_codec.specs.declared.image_fault.ImageFault.TheVariants as images
 use Rattle.exh_codec.specs.Block.{IsSealed}

@@ -3,8 +3,8 @@ use Rattle.std.specs.Prelude.{ℕ, List, Vec, map}
 use Rattle.std.specs.List.{AllByRecursion, flat_map}
 use Rattle.std.specs.declared.alloc.Global.{Global}
 use Rattle.exh_keyer.specs.Pseudokey.{any_pseudokey}
-use Rattle.exh_page.specs.declared.page.Page.{Page}
-use Rattle.exh_page.specs.Page.{IsWellFormed}
+use Rattle.exh_legal.specs.declared.Page.{Page}
+use Rattle.exh_legal.specs.Page.{IsWellFormed}
 use Rattle.exh_format.specs.declared.file_parts.FileParts.{FileParts}
 use Rattle.exh_format.specs.PageFile.{PageFile}
 

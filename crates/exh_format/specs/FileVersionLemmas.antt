@@ -2,7 +2,7 @@
 use Rattle.std.proofs.Common.{◌≡◌, ℕ, ◌^◌, ◌<◌, ◌≤◌, List, ◌++◌, take, refl, ap, ◌∙◌, arith}
 use Rattle.std.proofs.lemmas.List.{get_or-take}
 use Rattle.std.specs.Prelude.{cond, nat_eq}
-use Rattle.exh_notice.specs.NoticeByteLemmas.{big_from-agree}
+use Rattle.exh_legal.specs.NoticeByteLemmas.{big_from-agree}
 use Rattle.exh_codec.specs.Block.{sealed}
 use Rattle.exh_codec.specs.PageImage.{padded}
 use Rattle.exh_codec.specs.declared.block.TheConstants.{CONTENT_LEN}

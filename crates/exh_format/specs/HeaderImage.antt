@@ -2,8 +2,8 @@
 use Rattle.std.specs.Prelude.{◌≡◌, ℕ, ◌-◌, ◌^◌, ◌<◌, ◌≤◌, List, [], ◌∷◌, ◌++◌, length, take, drop, codes}
 use Rattle.std.specs.List.{AllByRecursion, flat_map}
 use Rattle.byteorder.specs.Endian.{big_bytes}
-use Rattle.exh_settings.specs.Keyers.{keyer_byte}
-use Rattle.exh_page.specs.declared.page.TheConstants.{CAP_LIMIT}
+use Rattle.exh_legal.specs.Keyers.{keyer_byte}
+use Rattle.exh_legal.specs.PageLimits.{CAP_LIMIT}
 use Rattle.exh_codec.specs.declared.block.TheConstants.{CONTENT_LEN}
 use Rattle.exh_codec.specs.Block.{sealed}
 use Rattle.exh_codec.specs.PageImage.{padded}

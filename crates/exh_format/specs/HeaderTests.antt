@@ -1,7 +1,7 @@
 -- The tests of a header block in their order, each over the whole block.
 use Rattle.std.specs.Prelude.{◌≡◌, ⊤, ℕ, ◌+◌, ◌*◌, ◌<◌, List, [], ◌∷◌, take, slice_index, slice_range, codes}
 use Rattle.byteorder.specs.Endian.{big_from}
-use Rattle.exh_notice.specs.NoticeImages.{items}
+use Rattle.exh_legal.specs.NoticeImages.{items}
 use Rattle.exh_codec.specs.declared.block.TheConstants.{CONTENT_LEN}
 use Rattle.exh_codec.specs.declared.image_fault.ImageFault.TheVariants as images
 use Rattle.exh_codec.specs.Block.{IsSealed, AreZero}
@@ -10,7 +10,7 @@ use Rattle.exh_format.specs.declared.file_fault.FileFault.TheVariants as faults
 use Rattle.exh_format.specs.declared.header.Header.{Header}
 use Rattle.exh_format.specs.declared.header.TheConstants.{COUNTS_LEN, HEADER_LEN}
 use Rattle.exh_format.specs.FileVersion.{FileVersion}
-use Rattle.exh_settings.specs.Keyers.{keyer_byte}
+use Rattle.exh_legal.specs.Keyers.{keyer_byte}
 use Rattle.exh_format.specs.HeaderImage.{IsHeader}
 
 -- the header is what the fields of a block say

@@ -3,8 +3,8 @@ use Rattle.std.specs.Prelude.{⊤, ℕ, nat_eq, Bool, List, Option, Some, map, f
 use Rattle.std.specs.List.{range_with_len}
 use Rattle.std.specs.FinMap.{from_entries}
 use Rattle.exh_keyer.specs.Pseudokey.{any_pseudokey}
-use Rattle.exh_notice.specs.declared.entry.Entry.{Entry}
-use Rattle.exh_table.specs.Table.{TableMap}
+use Rattle.exh_legal.specs.declared.Entry.{Entry}
+use Rattle.exh_legal.specs.Table.{TableMap}
 use Rattle.exh_format.specs.declared.file_entry.FileEntry.{FileEntry}
 use Rattle.exh_format.specs.FileVersion.{FileVersion, format_of}
 use Rattle.exh_format.specs.FileTests.{IsFileFault}

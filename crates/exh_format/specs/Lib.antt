@@ -1,3 +1,16 @@
+pub use Rattle.exh_legal.specs.LegalLaws
+pub use Rattle.exh_legal.specs.LegalParts
+pub use Rattle.exh_legal.specs.MapLemmas
+pub use Rattle.exh_legal.specs.Pages
+pub use Rattle.exh_legal.specs.ReasonLaws
+pub use Rattle.exh_legal.specs.Reasons
+pub use Rattle.exh_legal.specs.WardMapLemmas
+pub use Rattle.exh_legal.specs.Page
+pub use Rattle.exh_legal.specs.Keyers
+pub use Rattle.exh_legal.specs.SetLemmas
+pub use Rattle.exh_legal.specs.Table
+pub use Rattle.exh_legal.specs.TableWalk
+pub use Rattle.exh_legal.specs.WalkLemmas
 pub mod FileVersion
 pub mod FirstFailing
 pub mod FirstFailingLemmas

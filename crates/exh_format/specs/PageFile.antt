@@ -4,7 +4,7 @@ use Rattle.std.specs.List.{AllByRecursion, flat_map}
 use Rattle.exh_prefix.specs.declared.version.Version.{Version as KnownVersion}
 use Rattle.exh_prefix.specs.Version.{Version}
 use Rattle.exh_keyer.specs.Pseudokey.{any_pseudokey}
-use Rattle.exh_page.specs.declared.page.Page.{Page}
+use Rattle.exh_legal.specs.declared.Page.{Page}
 use Rattle.exh_codec.specs.declared.block.TheConstants.{CONTENT_LEN}
 use Rattle.exh_codec.specs.Block.{sealed}
 use Rattle.exh_codec.specs.PageImage.{IsPage, content_of, padded}

@@ -3,8 +3,8 @@ use Rattle.std.specs.Prelude.{◌≡◌, ⊤, ℕ, ◌<◌, Bool, List, Option, 
 use Rattle.std.specs.declared.cmp.Ordering.TheVariants.{Less}
 use Rattle.exh_prefix.specs.Prefix.{prefix_cmp}
 use Rattle.exh_prefix.specs.Version.{Version}
-use Rattle.exh_notice.specs.declared.notice_fault.NoticeFault.{NoticeFault}
-use Rattle.exh_notice.specs.NoticeImages.{FailsFirst}
+use Rattle.exh_legal.specs.declared.NoticeFault.{NoticeFault}
+use Rattle.exh_legal.specs.NoticeImages.{FailsFirst}
 use Rattle.exh_codec.specs.declared.image_fault.ImageFault.{ImageFault}
 use Rattle.exh_format.specs.declared.file_entry.FileEntry.{FileEntry}
 use Rattle.exh_format.specs.TableImage.{AreEntries}

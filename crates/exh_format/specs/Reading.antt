@@ -4,7 +4,7 @@ use Rattle.std.specs.List.{AllByRecursion, flat_map}
 use Rattle.std.specs.Io.KnownBytes.{Consumes}
 use Rattle.exh_prefix.specs.Version.{Version}
 use Rattle.exh_stream.specs.Source.{reader_failed, unread}
-use Rattle.exh_page.specs.declared.page.Page.{Page}
+use Rattle.exh_legal.specs.declared.Page.{Page}
 use Rattle.exh_codec.specs.PageImage.{IsPage}
 use Rattle.exh_codec.specs.declared.block.TheConstants.{BLOCK_LEN}
 use Rattle.exh_format.specs.declared.file_entry.FileEntry.{FileEntry}

@@ -7,7 +7,7 @@ use Rattle.std.proofs.lemmas.List.{length-append, map-append, take_all, take_mor
 use Rattle.std.proofs.lemmas.List.Sums.{sum_by-cons}
 use Rattle.exh_prefix.specs.PrefixListLemmas.{AllByRecursion-append_left}
 use Rattle.exh_prefix.specs.Prefix.{prefix_cmp}
-use Rattle.exh_page.specs.declared.page.Page.{Page}
+use Rattle.exh_legal.specs.declared.Page.{Page}
 use Rattle.exh_format.specs.declared.file_entry.FileEntry.{FileEntry}
 use Rattle.exh_format.specs.RisingLemmas.{all_after}
 use Rattle.exh_format.specs.TableImage.{AreRising, prefixes_of}

@@ -2,10 +2,10 @@
 use Rattle.std.specs.Prelude.{◌≡◌, ℕ, zero, suc, ◌*◌, Bool, List, [], ◌∷◌, ◌++◌, Option, take, drop, slice_range}
 use Rattle.std.specs.Option.{option_to_list}
 use Rattle.exh_prefix.specs.Version.{Version}
-use Rattle.exh_notice.specs.declared.entry_image.TheConstants.{ENTRY_IMAGE_LEN}
-use Rattle.exh_notice.specs.declared.notice_fault.NoticeFault.{NoticeFault}
-use Rattle.exh_notice.specs.declared.notice_fault.NoticeFault.TheVariants as entries
-use Rattle.exh_notice.specs.NoticeImages.{HasKind, IsPadded, HasPrefixField}
+use Rattle.exh_legal.specs.NoticeLimits.{ENTRY_IMAGE_LEN}
+use Rattle.exh_legal.specs.declared.NoticeFault.{NoticeFault}
+use Rattle.exh_legal.specs.declared.NoticeFault.TheVariants as entries
+use Rattle.exh_legal.specs.NoticeImages.{HasKind, IsPadded, HasPrefixField}
 use Rattle.exh_codec.specs.declared.block.TheConstants.{CONTENT_LEN}
 use Rattle.exh_codec.specs.declared.image_fault.ImageFault.{ImageFault}
 use Rattle.exh_codec.specs.declared.image_fault.ImageFault.TheVariants as images

@@ -10,7 +10,7 @@ use Rattle.exh_prefix.specs.Version.{Fits, Version}
 use Rattle.exh_stream.specs.Output.{AppendsAllBut, AppendsBeginning, Takes, TakesBeginning, held, pending}
 use Rattle.exh_stream.specs.declared.output.Output.{Output}
 use Rattle.exh_stream.specs.OutputLemmas.{AppendsAllBut-more, AppendsBeginning-after, AppendsBeginning-from, Takes-none, Takes-then, TakesBeginning-of_more, TakesBeginning-then}
-use Rattle.exh_notice.specs.ImageLemmas.{length-entry_image}
+use Rattle.exh_legal.specs.ImageLemmas.{length-entry_image}
 use Rattle.exh_codec.specs.Block.{sealed}
 use Rattle.exh_codec.specs.PageImage.{padded}
 use Rattle.exh_format.specs.declared.file_entry.FileEntry.{FileEntry}

@@ -19,7 +19,7 @@ use crate::{
 };
 use exh_codec::{BLOCK_LEN, decode_page_of};
 use exh_keyer::AnyKeyer;
-use exh_page::Page;
+use exh_legal::Page;
 use exh_prefix::{Prefix, Version};
 use exh_stream::Source;
 use std::alloc::Global;

@@ -1,8 +1,8 @@
 ghost use Rattle.std.specs.Prelude.{◌≡◌, ◌<◌, length};
 ghost use Rattle.exh_prefix.specs.Version.{Version as AnyVersion, Fits};
-ghost use Rattle.exh_notice.specs.NoticeImages.{right_field};
+ghost use Rattle.exh_legal.specs.NoticeImages.{right_field};
 
-use exh_notice::{ENTRY_IMAGE_LEN, Entry, Kind};
+use exh_legal::{ENTRY_IMAGE_LEN, Entry, Kind};
 use exh_prefix::{PageNo, Prefix};
 
 /// An entry of a page file's table, with its ward and its prefix.

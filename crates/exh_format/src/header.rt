@@ -11,20 +11,35 @@ use crate::FileFault;
 use byteorder::{BigEndian, ByteOrder};
 use exh_codec::{BLOCK_LEN, CONTENT_LEN, ImageFault, are_zero, is_sealed, seal};
 use exh_keyer::AnyKeyer;
+use exh_legal::{FileSettings, keyer_byte, keyer_of_byte};
 use exh_prefix::{Version, WRITTEN};
-use exh_settings::{FileSettings, keyer_byte, keyer_of_byte};
 
 /// For how many wards a header counts pages.
 pub const COUNTS_LEN: usize = 16;
 
 /// How a page file begins.
-const MAGIC: [u8; 8] = *b"EXHASHPF";
+pub const MAGIC: [u8; 8] = *b"EXHASHPF";
+
+/// The number of version 1 in a header.
+const FIRST_NUMBER: u16 = 1;
+
+/// The number of version 2 in a header.
+const SECOND_NUMBER: u16 = 2;
+
+/// The number of version 3 in a header.
+pub const PLACED_NUMBER: u16 = 3;
+
+/// How many bytes of a file say its version: how it begins, and the number behind that.
+pub const NUMBERED_LEN: usize = 10;
 
 /// How many bytes of a header stand before the page counts.
-const FRONT_LEN: usize = 20;
+pub const FRONT_LEN: usize = 20;
 
-/// How many bytes of a header block say something.
+/// How many bytes of a header block of version 1 or 2 say something.
 pub(crate) const HEADER_LEN: usize = FRONT_LEN + 4 * COUNTS_LEN;
+
+/// How many bytes of a header block of version 3 say something: behind the page counts stand two stamps.
+pub const STAMPED_LEN: usize = FRONT_LEN + 4 * COUNTS_LEN + 16;
 
 /// What the header block of a page file says.
 #[derive(Clone, Copy)]
@@ -201,8 +216,8 @@ fn number_of(version: Version) -> u16
     ensures { result ≡ number_of_version version }
 {
     match version {
-        Version::First => 1,
-        Version::Second => 2,
+        Version::First => FIRST_NUMBER,
+        Version::Second => SECOND_NUMBER,
     }
 }
 

@@ -1,5 +1,5 @@
 use crate::FileParts;
-use exh_table::Table;
+use exh_legal::Table;
 
 /// What a legal page file says, the pages of each ward being read into a `W`.
 #[derive(Drop)]

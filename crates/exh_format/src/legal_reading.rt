@@ -10,8 +10,7 @@ use crate::tables::tables_of;
 use crate::{FileParts, LegalFile, LegalFileFault, files_pass, one_file, read_file_into};
 use exh_codec::ReadPages;
 use exh_keyer::AnyKeyer;
-use exh_legal::{Reason, first_reason, legal_files_pass};
-use exh_table::Table;
+use exh_legal::{Reason, Table, first_reason, legal_files_pass};
 use std::alloc::{AllocError, Global};
 use std::io::Read;
 

@@ -3,11 +3,16 @@
 #![tactic(auto)]
 
 pub use block_laws::{images_are_blocks, images_pass, one_block_image, one_value};
+pub use exh_legal::{
+    FileSettings, Kind, Leaf, Page, Reason, Table, keyer_byte, keyer_of_byte, walks_name_homes,
+};
 pub use file_entry::FileEntry;
 pub use file_fault::FileFault;
 pub use file_laws::{files_pass, one_file, one_image, same_blocks, written_is_file};
 pub use file_parts::FileParts;
-pub use header::{COUNTS_LEN, Header, version_in};
+pub use header::{
+    COUNTS_LEN, FRONT_LEN, Header, MAGIC, NUMBERED_LEN, PLACED_NUMBER, STAMPED_LEN, version_in,
+};
 pub use items::push_item;
 pub use legal_file::LegalFile;
 pub use legal_file_fault::LegalFileFault;

@@ -12,7 +12,7 @@ use crate::read_table::read_table;
 use crate::{FileParts, Header, ReadFileFault, files_pass, one_file};
 use exh_codec::ReadPages;
 use exh_keyer::AnyKeyer;
-use exh_page::Page;
+use exh_legal::Page;
 use std::alloc::Global;
 use std::io::Read;
 

@@ -2,9 +2,9 @@ ghost use Rattle.std.specs.Prelude.{◌≡◌, ◌≢◌, ◌≤◌, ◌<◌, �
 ghost use Rattle.std.specs.List.{AllByRecursion, flat_map};
 ghost use Rattle.std.specs.Option.{option_to_list};
 ghost use Rattle.exh_prefix.specs.Layout.{layout};
-ghost use Rattle.exh_notice.specs.declared.entry_image.TheConstants.{ENTRY_IMAGE_LEN};
-ghost use Rattle.exh_notice.specs.declared.notice_fault.NoticeFault.{NoticeFault};
-ghost use Rattle.exh_notice.specs.NoticeImages.{right_field, FailsFirst};
+ghost use Rattle.exh_legal.specs.NoticeLimits.{ENTRY_IMAGE_LEN};
+ghost use Rattle.exh_legal.specs.declared.NoticeFault.{NoticeFault};
+ghost use Rattle.exh_legal.specs.NoticeImages.{right_field, FailsFirst};
 ghost use Rattle.exh_format.specs.declared.file_entry.FileEntry.{FileEntry as FileEntryValue};
 ghost use Rattle.exh_format.specs.declared.table_block.TheConstants.{BLOCK_ENTRIES};
 ghost use Rattle.exh_format.specs.TableImage.{AreEntries, AreRising, IsFileEntry, IsTableImage, image_of, prefixes_of};
@@ -13,7 +13,7 @@ ghost use Rattle.exh_format.specs.TableTests.{IsFirstFault, entry_fault};
 
 use crate::{FileEntry, push_item};
 use exh_codec::{BLOCK_LEN, CONTENT_LEN, ImageFault, are_zero, is_sealed};
-use exh_notice::{ENTRY_IMAGE_LEN, Entry, NoticeFault};
+use exh_legal::{ENTRY_IMAGE_LEN, Entry, NoticeFault};
 use exh_prefix::{Prefix, Version};
 use std::alloc::Global;
 use std::cmp::Ordering;

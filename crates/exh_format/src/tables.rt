@@ -4,7 +4,7 @@ ghost use Rattle.exh_format.specs.TableImage.{AreRising, prefixes_of};
 ghost use Rattle.exh_format.specs.LegalFile.{table_naming, tables_of};
 
 use crate::FileEntry;
-use exh_table::Table;
+use exh_legal::Table;
 use std::alloc::{AllocError, Global};
 
 /// How many wards an entry may name: each number that a byte has.

@@ -1,9 +1,9 @@
 ghost use Rattle.std.specs.Prelude.{◌≡◌, ◌%◌, length};
-ghost use Rattle.exh_notice.specs.declared.entry_image.TheConstants.{ENTRY_IMAGE_LEN};
+ghost use Rattle.exh_legal.specs.NoticeLimits.{ENTRY_IMAGE_LEN};
 
 use arrayvec::ArrayVec;
 use exh_codec::{BLOCK_LEN, CONTENT_LEN, seal};
-use exh_notice::ENTRY_IMAGE_LEN;
+use exh_legal::ENTRY_IMAGE_LEN;
 
 /// Images of entries that wait for their table block to be full.
 #[derive(Drop)]

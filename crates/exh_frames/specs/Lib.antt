@@ -4,3 +4,7 @@ pub mod FramedStore
 pub mod Failure
 pub use Rattle.exh_stores.specs.Digests
 pub use Rattle.exh_stores.specs.PageStore
+pub mod InPlace
+pub mod LentItem
+pub mod PageImages
+pub mod Runs

@@ -3,8 +3,7 @@ ghost use Rattle.std.specs.NonZero.{non_zero_usize_get};
 ghost use Rattle.exh_frames.specs.CacheSize.{IsCacheSize};
 
 use crate::cache_size::to_cache_size;
-use crate::{CacheFault, FramedPages};
-use exh_images::Images;
+use crate::{CacheFault, FramedPages, Images};
 use exh_keyer::Keyer;
 use exh_page::Page;
 use exh_stores::StoreMaker;

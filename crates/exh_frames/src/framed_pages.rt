@@ -10,11 +10,10 @@ ghost use Rattle.exh_stores.specs.PageStore.{IfPage};
 ghost use Rattle.exh_frames.specs.CacheSize.{IsCacheSize};
 ghost use Rattle.exh_frames.specs.Decoded.{decoded_at};
 
-use crate::CacheFault;
 use crate::cache_size::to_cache_size;
 use crate::decoded_pages::DecodedPages;
+use crate::{CacheFault, Images};
 use exh_codec::BLOCK_LEN;
-use exh_images::Images;
 use exh_keyer::Keyer;
 use exh_page::{Key, Lookup, Page, PageHead, Spot, Value};
 use exh_prefix::{PageNo, Prefix};

@@ -5,9 +5,9 @@ use Rattle.std.proofs.KnownBytes.{Consumes-kept, Consumes-nil, Consumes-trans, C
 use Rattle.std.proofs.lemmas.List.{length-drop, length_push}
 use Rattle.exh_stream.specs.Source.{unread}
 use Rattle.exh_text.specs.TextLines.{newline}
-use Rattle.exh_csv.specs.declared.place.Place.{Place}
-use Rattle.exh_csv.specs.declared.place.Place.TheVariants.{Start, Quoted}
-use Rattle.exh_csv.specs.Places.{AreQuoted, place_behind}
+use Rattle.exh_pair_text.specs.declared.place.Place.{Place}
+use Rattle.exh_pair_text.specs.declared.place.Place.TheVariants.{Start, Quoted}
+use Rattle.exh_pair_text.specs.Places.{AreQuoted, place_behind}
 use Rattle.exh_pair_text.specs.Records.{IsOneLine, place_by}
 use Rattle.exh_pair_text.specs.declared.pair_format.PairFormat.{PairFormat}
 use Rattle.exh_import.specs.declared.imported_store.Added.{Added}

@@ -21,5 +21,3 @@ mod line_reader;
 mod options;
 mod rejection;
 mod taking;
-#[cfg(test)]
-mod tests;

@@ -2,14 +2,13 @@
 ghost use Rattle.std.specs.Prelude.{◌≡◌, ◌≢◌, ◌⊎◌, [], ◌∷◌, ◌++◌, length, option_to_list, IfErr, IfNone, IfOk, IsFalse, IsTrue, OnOk};
 ghost use Rattle.std.specs.Io.KnownBytes.{Keeps};
 ghost use Rattle.exh_stream.specs.Source.{ReadsFrom, SameReader};
-ghost use Rattle.exh_csv.specs.declared.place.Place.TheVariants.{Quoted};
+ghost use Rattle.exh_pair_text.specs.declared.place.Place.TheVariants.{Quoted};
 ghost use Rattle.exh_text.specs.TextLines.{newline};
 ghost use Rattle.exh_import.specs.Causes.{IsLineCause, IsReadCause};
 ghost use Rattle.exh_import.specs.LineReader.{AreTaken, EndsRight, IsOver, TakesNext, mark_len, text_left, unmarked, waiting};
 
 use crate::ImportFault;
-use exh_csv::Place;
-use exh_pair_text::PairFormat;
+use exh_pair_text::{PairFormat, Place};
 use exh_stream::{BLOCK, Source};
 use std::alloc::{AllocError, Global};
 use std::io::Read;

@@ -1,14 +1,14 @@
 -- What refusals tell of a legal page file.
 use Rattle.std.proofs.Common.{ℕ, List, inl, inr, subst}
 use Rattle.std.specs.List.{AllByRecursion}
-use Rattle.exh_format.specs.FileTests.{block_at}
-use Rattle.exh_format.specs.FirstFailingLemmas.{none_first}
-use Rattle.exh_format.specs.HeaderTests.{header_tests}
-use Rattle.exh_cells.specs.BlockLaws.{StampedPass}
-use Rattle.exh_cells.specs.PlacedFile.{IsPlacedFile, PlacedFile, stamped_block}
-use Rattle.exh_cells.specs.StampedHeader.{IsStampedImage, PassesStamped}
-use Rattle.exh_direct.specs.declared.direct_fault.DirectFault.TheVariants.{Astray, File, Memory, Read}
-use Rattle.exh_edits.specs.EditLaws.{HeadersStand}
+use Rattle.exh_paged.specs.FileTests.{block_at}
+use Rattle.exh_paged.specs.FirstFailingLemmas.{none_first}
+use Rattle.exh_paged.specs.HeaderTests.{header_tests}
+use Rattle.exh_paged.specs.BlockLaws.{StampedPass}
+use Rattle.exh_paged.specs.PlacedFile.{IsPlacedFile, PlacedFile, stamped_block}
+use Rattle.exh_paged.specs.StampedHeader.{IsStampedImage, PassesStamped}
+use Rattle.exh_system.specs.declared.DirectFault.TheVariants.{Astray, File, Memory, Read}
+use Rattle.exh_paged.specs.EditLaws.{HeadersStand}
 use Rattle.exh_paged.specs.FilesFault.{ChangeFails, IsCause, IsOfDisk}
 use Rattle.exh_paged.specs.declared.expected.Expected.TheVariants.{Stamp}
 use Rattle.exh_paged.specs.declared.files_fault.FilesFault.{FilesFault}

@@ -1,12 +1,12 @@
 -- What a refusal tells of the file that was to be changed.
 use Rattle.std.specs.Prelude.{◌≡◌, ◌⊎◌, ⊤, ℕ, List}
 use Rattle.exh_table.specs.Table.{TableMap}
-use Rattle.exh_cells.specs.LegalPlaced.{IsLegalPlacedFile}
-use Rattle.exh_cells.specs.PlacedFile.{PlacedFile}
-use Rattle.exh_commit.specs.declared.change_fault.ChangeFault.TheVariants as changes
-use Rattle.exh_commit.specs.declared.commit_fault.CommitFault.TheVariants.{MaybeSaved}
-use Rattle.exh_direct.specs.DirectLaws.{IsOtherFault}
-use Rattle.exh_direct.specs.declared.direct_fault.DirectFault.TheVariants as reads
+use Rattle.exh_paged.specs.LegalPlaced.{IsLegalPlacedFile}
+use Rattle.exh_paged.specs.PlacedFile.{PlacedFile}
+use Rattle.exh_paged.specs.declared.ChangeFault.TheVariants as changes
+use Rattle.exh_paged.specs.declared.CommitFault.TheVariants.{MaybeSaved}
+use Rattle.exh_system.specs.DirectLaws.{IsOtherFault}
+use Rattle.exh_system.specs.declared.DirectFault.TheVariants as reads
 use Rattle.exh_paged.specs.FilesFault as files
 use Rattle.exh_paged.specs.SaveFilesFault as saves
 use Rattle.exh_paged.specs.declared.expected.Expected.TheVariants.{Stamp}

@@ -4,13 +4,14 @@ use crate::Refused;
 use crate::locked::{Locked, begin, locked_at};
 use crate::system_files::{close, opened_locked};
 use exh_calls::{Call, Reply};
-use exh_paged::{Calls, Expected, Operation, PutIf, answer_files};
+use exh_paged::{Expected, Operation, PutIf, answer_files};
 use sqlite_std_file::Wary;
 
 /// Answers a call by the page file of a path in place, where that is of version 3; `None` where it is of another version, or
 /// isn't opened. It is locked before it is read, for which it waits so many seconds.
 ///
-/// `Unfit`, `Damaged`, `NotSaved`: nothing was changed. `MaybeSaved`: the next run finds it changed, or as before.
+/// `Unfit`, `Damaged`: nothing was changed. `Unrecovered`: nothing was changed, and what a cut-off run left stands in the log
+/// still. `Change`: it wasn't changed, or may have been, as the fault says.
 pub fn change_at(
     rt: &HostRuntime,
     path: &str,
@@ -18,23 +19,6 @@ pub fn change_at(
     seconds: u64,
 ) -> Result<Option<Reply>, Refused> {
     answer_at(rt, path, call, seconds)
-}
-
-/// Answers calls by the page file of a path in place as one change: a crash leaves what all of them make of it, or what was
-/// there. `None` where it is of another version than version 3, or isn't opened. It is locked before it is read, for which it
-/// waits so many seconds.
-///
-/// Errors: as of `change_at`.
-pub fn change_all_at(
-    rt: &HostRuntime,
-    path: &str,
-    calls: &[Call],
-    seconds: u64,
-) -> Result<Option<Vec<Reply>>, Refused> {
-    match answer_at(rt, path, &Calls { calls }, seconds)? {
-        Some(answered) => Ok(Some(answered.replies)),
-        None => Ok(None),
-    }
 }
 
 /// Makes a put that has a condition in the page file of a path in place, or not, as `change_at` has it answer a call.

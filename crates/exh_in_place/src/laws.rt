@@ -1,8 +1,7 @@
 //! A law of refusals: the function changes nothing, and its contract is the law.
 ghost use Rattle.exh_in_place.specs.Refusals.{LegalFilesAreWhole};
 
-use exh_cells::stamped_headers_pass;
-use exh_edits::blocks_stand;
+use exh_paged::{blocks_stand, stamped_headers_pass};
 
 /// Of a legal page file of version 3 no refusal tells that something in it is wrong, where the fault is one of the disk. It
 /// takes no memory.

@@ -2,12 +2,10 @@ ghost use Rattle.std.specs.Prelude.{◌≡◌, ◌↔◌, IsTrue};
 ghost use Rattle.exh_in_place.specs.Refusals.{IsOfFault, IsOfSaveFault, MayBeSaved};
 ghost use Rattle.exh_in_place.specs.declared.refused.Refused.TheVariants.{Unfit};
 
-use exh_commit::{ChangeFault, CommitFault};
-use exh_direct::DirectFault;
-use exh_edits::DifferingFault;
-use exh_file::SaveFault;
-use exh_paged::{FilesFault, SaveFilesFault};
-use exh_system::InPlaceFault;
+use exh_paged::{
+    ChangeFault, CommitFault, DifferingFault, FilesFault, LogFault, SaveFault, SaveFilesFault,
+};
+use exh_system::{DirectFault, InPlaceFault};
 use sqlite_pager::Error;
 use std::io;
 use thiserror::Error as Fault;
@@ -30,7 +28,7 @@ pub enum Refused {
     /// It wasn't changed, or may have been, as the fault says.
     #[error("{0}")]
     Change(ChangeFault),
-    /// A change that was cut off stands in the log beside it, and can't be copied into it.
+    /// A change that was cut off stands in the log beside it, and can't be copied into it. Nothing else was changed.
     #[error("a change stands in the log beside the file, and can't be copied into it: {0}")]
     Unrecovered(Error),
 }
@@ -62,6 +60,17 @@ impl From<io::Error> for Refused {
     }
 }
 
+impl From<LogFault> for Refused {
+    fn from(fault: LogFault) -> Refused {
+        match fault {
+            LogFault::NoLog => Refused::Unfit(InPlaceFault::NoLog),
+            LogFault::Read(Error::Io(error)) => Refused::from(error),
+            LogFault::Read(Error::OutOfMemory) => Refused::Unfit(InPlaceFault::Memory),
+            LogFault::Read(error) => Refused::Change(ChangeFault::Open(error)),
+        }
+    }
+}
+
 impl From<FilesFault> for Refused {
     ghost from_gives = { IsOfFault };
 
@@ -71,6 +80,7 @@ impl From<FilesFault> for Refused {
             FilesFault::NotAsOpened => Refused::Unfit(InPlaceFault::NotAsOpened),
             FilesFault::Header(fault) => Refused::Damaged(DirectFault::File(fault)),
             FilesFault::Read(error) => Refused::Change(ChangeFault::Open(error)),
+            FilesFault::Uncopied(error) => Refused::Unrecovered(error),
             // The file is a list of blocks, so what doesn't fit it is the log.
             FilesFault::Change(ChangeFault::Open(Error::Corrupt)) => {
                 Refused::Unfit(InPlaceFault::OthersLog)

@@ -5,10 +5,8 @@ use crate::Refused;
 use crate::locked::lock_again;
 use crate::system_files::{close, opened_locked, options};
 use exh_calls::Call;
-use exh_file::Draft;
-use exh_paged::{Answered, answer_over, save_files};
-use exh_stores::Pages;
-use exh_system::draw_stamp;
+use exh_paged::{Answered, Draft, answer_over, save_files};
+use exh_system::{Pages, draw_stamp};
 use sqlite_std_file::Wary;
 use std::fs::File;
 

@@ -1,14 +1,16 @@
 //! A page file of the system, opened with its log.
 ghost use Rattle.std.specs.Prelude.{true, false, IsTrue, IfOk};
 ghost use Rattle.sqlite_std_file.specs.File.{file_is_usable, IsFresh};
+ghost use Rattle.exh_in_place.specs.SystemFiles.{IsOnDisk};
 
 use crate::Refused;
-use exh_cells::StampedHeader;
 use exh_codec::BLOCK_LEN;
+use exh_paged::{SeenFiles, StampedHeader, see_log};
 use exh_system::{InPlaceFault, PageLog, is_at, lock_soon, open_regular};
 use sqlite_disk::Files;
 use sqlite_pager::Options;
 use sqlite_std_file::{FileFrom, OpenError, Start, Wary};
+use std::alloc::Global;
 use std::fs::File;
 use std::hash::{BuildHasher, RandomState};
 use std::os::unix::fs::FileExt;
@@ -32,22 +34,52 @@ pub(crate) fn own_stamp(file: &File) -> Result<Option<u64>, Refused> {
     }
 }
 
-// The file of a path without links, and its log, which is made.
-fn opened<S: Start>(rt: &HostRuntime, whole: &str, start: S) -> Result<Files<FileFrom<S>>, Refused>
+// Looks at the log of files that were just opened. Where it is none of exhash both are let go, as they were.
+fn seen<S: Start>(
+    alloc: Global,
+    files: Files<FileFrom<S>>,
+) -> Result<SeenFiles<FileFrom<S>>, Refused>
+    requires log { IsTrue (file_is_usable S.Start files.log) }
+    requires db { IsTrue (file_is_usable S.Start files.db) }
+    requires fresh { IsFresh true files.log × IsFresh false files.db }
     ensures log { IfOk result (λ files. IsTrue (file_is_usable S.Start files.log)) }
     ensures db { IfOk result (λ files. IsTrue (file_is_usable S.Start files.db)) }
-    ensures fresh { IfOk result (λ files. IsFresh true files.log × IsFresh false files.db) }
+    ensures on_disk { IfOk result (λ files. IsOnDisk S.Start files.log × IsOnDisk S.Start files.db) }
+{
+    match see_log(alloc, files) {
+        Ok(files) => Ok(files),
+        Err((fault, _)) => Err(Refused::from(fault)),
+    }
+}
+
+// The file of a path without links, and its log, which is made, or was looked at.
+fn opened<S: Start>(
+    rt: &HostRuntime,
+    whole: &str,
+    start: S,
+) -> Result<SeenFiles<FileFrom<S>>, Refused>
+    ensures log { IfOk result (λ files. IsTrue (file_is_usable S.Start files.log)) }
+    ensures db { IfOk result (λ files. IsTrue (file_is_usable S.Start files.db)) }
+    ensures on_disk { IfOk result (λ files. IsOnDisk S.Start files.log × IsOnDisk S.Start files.db) }
 {
     match sqlite_std_file::open(rt, whole, start) {
-        Ok(files) => Ok(files),
-        Err(OpenError::Io(error)) => Err(Refused::from(error)),
+        Ok(files) => seen(rt.alloc(), files),
+        Err(OpenError::Io(error)) => Err(unopened(rt, whole, error)),
         Err(OpenError::OutOfMemory) => Err(Refused::Unfit(InPlaceFault::Memory)),
         Err(OpenError::Busy) => Err(Refused::Unfit(InPlaceFault::Busy)),
         Err(OpenError::HotJournal) => Err(Refused::Unfit(InPlaceFault::Journal)),
     }
 }
 
-/// The page file of a path without links, which is locked, and its log, which is made. Where the path isn't the locked file's
+// Why the two aren't opened.
+fn unopened(rt: &HostRuntime, whole: &str, error: io::Error) -> Refused {
+    match PageLog::of(rt, whole) {
+        Ok(log) => Refused::Unfit(log.unopened(rt, whole, error)),
+        Err(error) => Refused::from(error),
+    }
+}
+
+/// The page file of a path without links, which is locked, and its log, which is made, or was looked at. Where the path isn't the locked file's
 /// any more, the opening may have made an empty file there: that is removed.
 ///
 /// Errors: `Unfit` with `NotAsOpened` where it isn't, else as of `change_at`.
@@ -56,17 +88,17 @@ pub(crate) fn opened_locked<S: Start>(
     file: &File,
     whole: &str,
     start: S,
-) -> Result<Files<FileFrom<S>>, Refused>
+) -> Result<SeenFiles<FileFrom<S>>, Refused>
     ensures log { IfOk result (λ files. IsTrue (file_is_usable S.Start files.log)) }
     ensures db { IfOk result (λ files. IsTrue (file_is_usable S.Start files.db)) }
-    ensures fresh { IfOk result (λ files. IsFresh true files.log × IsFresh false files.db) }
+    ensures on_disk { IfOk result (λ files. IsOnDisk S.Start files.log × IsOnDisk S.Start files.db) }
 {
     let found = opened(rt, whole, start);
     if is_there(rt, file, whole) {
         return found;
     }
     if let Ok(files) = found {
-        close(rt, whole, false, files);
+        close(rt, whole, false, files.into_files());
     }
     remove_empty(rt, whole)?;
     Err(Refused::Unfit(InPlaceFault::NotAsOpened))

@@ -5,12 +5,12 @@ use Rattle.std.specs.Io.KnownBytes.{Appends}
 use Rattle.std.proofs.KnownBytes.{Appends-trans}
 use Rattle.exh_stream.specs.Output.{AppendsBeginning}
 use Rattle.exh_stream.specs.OutputLemmas.{AppendsBeginning-after}
-use Rattle.exh_file.specs.Opened.{OpenedState}
+use Rattle.exh_load.specs.Opened.{OpenedState}
 use Rattle.exh_load.specs.Load.{Load, Loads, Prints, PrintsFront}
 use Rattle.exh_load.specs.declared.load_fault.LoadFault.{LoadFault}
 use Rattle.exh_load.specs.declared.load_fault.LoadFault.TheVariants.{Write, Memory, Page}
 use Rattle.exh_job.specs.LoadRun.{LoadPrints}
-use Rattle.exh_answer.specs.LastLine.{memory_line}
+use Rattle.exh_job.specs.LastLine.{memory_line}
 
 pub memory_writes : (fault : LoadFault) → fault ≡ Memory → fault ≢ Write
 memory_writes fault is = λ same. let never : Memory ≡ Write = sym is ∙ same in cc

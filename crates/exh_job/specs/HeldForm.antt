@@ -1,11 +1,11 @@
 -- In which form wards are saved at a path.
 use Rattle.std.specs.Prelude.{◌≡◌, ℕ, List, Option, None, Some}
-use Rattle.exh_file.specs.Draft.{DraftState, IsGrown}
-use Rattle.exh_file.specs.Opened.{OpenedState}
-use Rattle.exh_file.specs.declared.placing.Form.TheVariants.{Plain as PlainForm}
-use Rattle.exh_versions.specs.declared.file_form.FileForm.{FileForm}
-use Rattle.exh_versions.specs.declared.file_form.FileForm.TheVariants.{Placed, Plain}
-use Rattle.exh_versions.specs.declared.file_form.PlacedForm.{PlacedForm}
+use Rattle.exh_load.specs.Draft.{DraftState, IsGrown}
+use Rattle.exh_load.specs.Opened.{OpenedState}
+use Rattle.exh_load.specs.declared.Form.TheVariants.{Plain as PlainForm}
+use Rattle.exh_report.specs.declared.FileForm.{FileForm}
+use Rattle.exh_report.specs.declared.FileForm.TheVariants.{Placed, Plain}
+use Rattle.exh_report.specs.declared.PlacedForm.{PlacedForm}
 use Rattle.exh_job.specs.declared.held_file.HeldFile.{HeldFile}
 
 -- the places of a file of version 3

@@ -2,3 +2,8 @@ pub mod Opening
 pub mod HeldForm
 pub mod JobPath
 pub mod LoadRun
+pub mod ExitStatus
+pub mod LastLine
+pub mod OpenRun
+pub mod FileRun
+pub mod PairsAgain

@@ -2,15 +2,15 @@
 use Rattle.std.specs.Prelude.{◌≡◌, ◌⊎◌, ℕ, List, ◌++◌, Option, None, Some, Result, Ok, Err}
 use Rattle.std.specs.Io.KnownBytes.{Appends}
 use Rattle.exh_stream.specs.Output.{AppendsBeginning}
-use Rattle.exh_file.specs.Opened.{OpenedState}
+use Rattle.exh_load.specs.Opened.{OpenedState}
 use Rattle.exh_load.specs.Load.{Load, Loads, Prints, PrintsFront}
 use Rattle.exh_load.specs.declared.load_fault.LoadFault.{LoadFault}
 use Rattle.exh_load.specs.declared.load_fault.LoadFault.TheVariants.{Write, Memory, Page}
-use Rattle.exh_answer.specs.LastLine.{memory_line}
+use Rattle.exh_job.specs.LastLine.{memory_line}
 use Rattle.exh_job.specs.declared.job_path.JobPath.{JobPath}
 use Rattle.exh_job.specs.declared.ending.Ending.{Ending}
 use Rattle.exh_job.specs.declared.ending.Ending.TheVariants.{Over, Save}
-use Rattle.exh_answer.specs.declared.status.Status.TheVariants.{Refused}
+use Rattle.exh_job.specs.declared.status.Status.TheVariants.{Refused}
 
 -- Of what is the load of a reader, and of a writer that held `old` bytes before a load and `new` ones after it, where these
 -- are known: the load's text, and the file that comes of it; after want of memory

@@ -1,6 +1,6 @@
 -- What comes of opening the file of a path that a run is over.
 use Rattle.std.specs.Prelude.{◌≡◌, ⊤, ℕ, List, None, Option, Some, string_bytes}
-use Rattle.exh_disk.specs.declared.seen.Seen.{Seen}
+use Rattle.exh_saving.specs.declared.seen.Seen.{Seen}
 use Rattle.exh_job.specs.declared.held_file.HeldFile.{HeldFile}
 
 -- an opened file is known by this path

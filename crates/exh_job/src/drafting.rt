@@ -2,14 +2,14 @@
 ghost use Rattle.std.specs.Prelude.{◌≡◌, IfErr, IfOk};
 ghost use Rattle.std.specs.Option.{option_copied};
 ghost use Rattle.exh_job.specs.HeldForm.{IsDraftFrom};
-ghost use Rattle.exh_answer.specs.declared.status.Status.TheVariants.{Refused};
+ghost use Rattle.exh_job.specs.declared.status.Status.TheVariants.{Refused};
 
 use crate::saving::refuse_for_memory;
-use exh_answer::{FileWards, Status};
+use crate::{FileWards, Status};
 use exh_command::PageFileVersion;
-use exh_file::{Draft, DraftFault, PlacedForm, Stamps};
 use exh_frames::FileStore;
-use exh_system::draw_stamp;
+use exh_load::{Draft, DraftFault, PlacedForm, Stamps};
+use exh_map::draw_stamp;
 use std::alloc::Global;
 use std::io;
 

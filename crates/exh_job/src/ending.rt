@@ -1,7 +1,7 @@
 //! How the program ends after the run of a job.
 
 use crate::job_path::JobPath;
-use exh_answer::{FileWards, Status};
+use crate::{FileWards, Status};
 use exh_command::PageFileVersion;
 
 /// How the program ends after the run of a job.

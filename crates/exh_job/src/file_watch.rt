@@ -1,8 +1,8 @@
 //! How far the reading of pairs is, as a terminal is told, and what is said of them beside that.
 
 use crate::console;
-use exh_notes::{Expect, Notes};
 use exh_stream::{ClearingWriter, Console, Meter, Unit, Work};
+use exh_text::{Expect, Notes};
 use std::io::{IsTerminal, Stderr};
 
 /// Of the reading of pairs from standard input, which begins now: told where standard error is a terminal and standard

@@ -3,7 +3,7 @@ ghost use Rattle.std.specs.Option.{option_copied};
 ghost use Rattle.exh_job.specs.HeldForm.{IsFormSaved};
 
 use crate::held_file::HeldFile;
-use exh_file::{FileForm, PlacedForm};
+use exh_load::{FileForm, PlacedForm};
 
 /// The places in which wards are saved at a path: those of the file that was opened, where that is of version 3 and the
 /// same path was named. A path that leads to it by another name is elsewhere.

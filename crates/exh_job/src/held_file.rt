@@ -1,5 +1,5 @@
-use exh_file::FileForm;
-use exh_path::OpenedFile;
+use exh_load::FileForm;
+use exh_map::OpenedFile;
 
 /// A page file that was opened at a path and is held open.
 #[derive(Drop)]

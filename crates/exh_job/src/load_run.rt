@@ -6,12 +6,11 @@ ghost use Rattle.exh_load.specs.declared.load_source.TheConstants.{TEXT_LIMIT};
 ghost use Rattle.exh_job.specs.JobPath.{SavesAt};
 ghost use Rattle.exh_job.specs.LoadRun.{IsLoadEnding, LoadPrints};
 
-use crate::{Ending, JobPath};
-use exh_answer::{FileWards, Status, print_out_of_memory};
+use crate::{Ending, FileWards, JobPath, Status, print_out_of_memory};
 use exh_frames::MAKER;
 use exh_load::{LoadFault, load, load_long};
-use exh_notes::Listener;
 use exh_stream::Output;
+use exh_text::Listener;
 use std::alloc::Global;
 use std::cell::Cell;
 use std::io::{Read, Write};

@@ -2,20 +2,19 @@
 ghost use Rattle.std.specs.Prelude.{◌≡◌, IfErr, IfOk, IsOkAnd};
 ghost use Rattle.std.specs.Option.{option_copied};
 ghost use Rattle.exh_job.specs.Opening.{IsNamed, IsOpenedAt};
-ghost use Rattle.exh_answer.specs.declared.status.Status.TheVariants.{Refused};
+ghost use Rattle.exh_job.specs.declared.status.Status.TheVariants.{Refused};
 
 use crate::held_file::HeldFile;
 use crate::saving::refuse_for_memory;
 use crate::sentence::{tell_fault, tell_unopened};
 use crate::standard::refuse_unread;
 use crate::watch::reading_meter;
-use exh_answer::{FileWards, Status, Unopened, open_file};
-use exh_in_place::hold_still;
-use exh_map::StoreError;
-use exh_notes::ReasonReader;
-use exh_path::{OpenedFile, SystemDisk, open_above};
+use crate::{FileWards, Status, Unopened, open_file};
+use exh_map::{
+    OpenedFile, Reason, StoreError, SystemDisk, WAIT, hold_still, open_above, with_reason,
+};
 use exh_stream::{ClearingWriter, MeteredReader, Output};
-use exh_system::{Reason, WAIT, with_reason};
+use exh_text::ReasonReader;
 use std::cell::Cell;
 use std::fs::File;
 use std::io;

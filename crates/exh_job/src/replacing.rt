@@ -1,16 +1,15 @@
 //! What standard error says of a page file with records that a save replaces.
 ghost use Rattle.std.specs.Prelude.{◌≡◌, ◌⊎◌};
-ghost use Rattle.exh_answer.specs.declared.status.Status.TheVariants.{Done, Refused as Ended};
+ghost use Rattle.exh_job.specs.declared.status.Status.TheVariants.{Done, Refused as Ended};
 
 use crate::held_file::HeldFile;
 use crate::job_path::JobPath;
 use crate::saving::save_at_path;
-use exh_answer::{FileWards, Status};
+use crate::{FileWards, Status};
 use exh_command::Job;
-use exh_file::open;
-use exh_map::{FileMap, Settings};
-use exh_notes::Escaped;
-use exh_system::{is_at, open_regular};
+use exh_load::open;
+use exh_map::{FileMap, Settings, is_at, open_regular};
+use exh_text::Escaped;
 use std::fs;
 
 // A page file that is replaced: its settings, and how many records it has.

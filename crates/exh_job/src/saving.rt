@@ -1,20 +1,21 @@
 //! Where the wards that a run leaves are saved, and what standard error says of that.
 ghost use Rattle.std.specs.Prelude.{◌≡◌, ◌⊎◌};
-ghost use Rattle.exh_answer.specs.declared.status.Status.TheVariants.{Done, Refused as Ended};
+ghost use Rattle.exh_job.specs.declared.status.Status.TheVariants.{Done, Refused as Ended};
 
 use crate::drafting::{drafted, drafted_anew};
 use crate::form_saved::form_saved;
 use crate::held_file::HeldFile;
 use crate::job_path::JobPath;
 use crate::watch::saving_meter;
-use exh_answer::{FileWards, Status, print_out_of_memory};
+use crate::{FileWards, Status, print_out_of_memory};
 use exh_command::PageFileVersion;
-use exh_file::{Draft, PlacedForm};
 use exh_frames::FileStore;
-use exh_in_place::{Refused, save_in_place, settle_before};
-use exh_path::{DiskFault, OpenedFile, SystemDisk, look_at, save_at};
+use exh_load::{Draft, PlacedForm};
+use exh_map::{
+    DiskFault, InPlaceFault, OpenedFile, Refused, SystemDisk, WAIT, above_limit, file_size_limit,
+    is_name_of_log, look_at, save_at, save_in_place, settle_before,
+};
 use exh_stream::Output;
-use exh_system::{InPlaceFault, WAIT, above_limit, file_size_limit};
 use std::{fs, io};
 
 /// Says on standard error why a path can't be saved to, where that can be told before the run.
@@ -130,6 +131,14 @@ fn seen_in<'h>(held: Option<&'h HeldFile<'_>>) -> Option<&'h OpenedFile> {
     }
 }
 
+// Sees that a path isn't where the log of a page file stands, and recovers what is to be replaced there.
+fn see_place(rt: &HostRuntime, path: &str) -> Result<(), Refused> {
+    if is_name_of_log(rt, path)? {
+        return Err(Refused::Unfit(InPlaceFault::LogName));
+    }
+    settle_before(rt, path, WAIT)
+}
+
 /// Saves a draft as the file of a path, and on a terminal tells how far that is.
 pub(crate) fn save_draft(
     rt: &HostRuntime,
@@ -139,7 +148,7 @@ pub(crate) fn save_draft(
 ) -> Status
     ensures { (result ≡ Done) ⊎ (result ≡ Ended) }
 {
-    if let Err(refused) = settle_before(rt, path, WAIT) {
+    if let Err(refused) = see_place(rt, path) {
         return refuse_in_place(rt, path, refused);
     }
     let meter = saving_meter(rt);

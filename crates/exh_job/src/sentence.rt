@@ -1,10 +1,8 @@
 //! Why a page file isn't read, in a sentence on standard error.
 
-use exh_backup::{unread_at, unread_file};
-use exh_file::open_form;
-use exh_map::StoreError;
-use exh_notes::{Escaped, ReasonReader};
-use exh_system::Reason;
+use exh_load::open_form;
+use exh_map::{Reason, StoreError, unread_at, unread_file};
+use exh_text::{Escaped, ReasonReader};
 use std::cell::Cell;
 use std::fs::File;
 use std::io::Seek;

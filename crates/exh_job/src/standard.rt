@@ -2,18 +2,17 @@
 ghost use Rattle.std.specs.Prelude.{◌≡◌, IfSome};
 ghost use Rattle.exh_job.specs.JobPath.{SavesAt};
 ghost use Rattle.exh_job.specs.Opening.{IsNamed};
-ghost use Rattle.exh_answer.specs.declared.status.Status.TheVariants.{Refused as Ended};
+ghost use Rattle.exh_job.specs.declared.status.Status.TheVariants.{Refused as Ended};
 
 use crate::sentence::{tell_fault, tell_refused, tell_unopened};
-use crate::{Ending, HeldFile, JobPath, open_at, reading_meter, with_reason};
-use exh_answer::{OUT_OF_MEMORY, Status, Topic, UNOPENED, print_last, tell_file};
+use crate::{
+    Ending, HeldFile, JobPath, OUT_OF_MEMORY, Status, Topic, UNOPENED, open_at, print_last,
+    reading_meter, tell_file, with_reason,
+};
 use exh_command::PageFileVersion;
-use exh_in_place::{Refused, hold_still};
-use exh_map::StoreError;
-use exh_notes::ReasonReader;
-use exh_path::open_above;
+use exh_map::{InPlaceFault, Reason, Refused, StoreError, WAIT, hold_still, open_above};
 use exh_stream::{ClearingWriter, MeteredReader, Output};
-use exh_system::{InPlaceFault, Reason, WAIT};
+use exh_text::ReasonReader;
 use std::cell::Cell;
 use std::fs::File;
 use std::io;

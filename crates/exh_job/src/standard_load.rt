@@ -6,12 +6,10 @@ ghost use Rattle.exh_job.specs.Opening.{IsNamed};
 use crate::file_watch::{pair_notes, pairs_meter};
 use crate::load_run::{load_ending, load_long_pairs, load_pairs};
 use crate::numbered_writer::NumberedWriter;
-use crate::{Ending, HeldFile, INPUT, JobPath, opened_at, tell_reason, warn};
-use exh_answer::FileWards;
+use crate::{Ending, FileWards, HeldFile, INPUT, JobPath, opened_at, tell_reason, warn};
 use exh_command::LoadWay;
-use exh_notes::{Expect, Notes, ReasonReader};
 use exh_stream::{ClearingWriter, MeteredReader};
-use exh_text::SCRIPT_LIMIT;
+use exh_text::{Expect, Notes, ReasonReader, SCRIPT_LIMIT};
 use std::cell::Cell;
 use std::io;
 

@@ -7,7 +7,7 @@ use Rattle.std.specs.Ordering.{eq_by_cmp, is_eq}
 use Rattle.std.proofs.lemmas.Cmp.{tied_itself}
 use Rattle.exh_prefix.specs.Prefix.{prefix_cmp}
 use Rattle.exh_prefix.specs.PrefixLemmas.{prefix_cmp-total}
-use Rattle.exh_notice.specs.declared.entry.Entry.{Entry}
+use Rattle.exh_table.specs.declared.Entry.{Entry}
 use Rattle.exh_table.specs.SetLemmas.{none_below}
 use Rattle.exh_prefix.specs.PrefixListLemmas.{first_part, second_part}
 use Rattle.exh_table.specs.Table.{TableMap}

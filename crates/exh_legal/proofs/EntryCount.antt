@@ -11,9 +11,9 @@ use Rattle.std.proofs.lemmas.Option.{slice_get-map}
 use Rattle.exh_prefix.specs.declared.prefix.TheConstants.{LIMIT}
 use Rattle.exh_prefix.specs.Prefix.{IsFront, low_of, prefix_cmp}
 use Rattle.exh_prefix.specs.PrefixLemmas.{begins_low, front_of_front, prefix_cmp-exact, prefix_cmp-total}
-use Rattle.exh_notice.specs.declared.entry.Entry.{Entry}
-use Rattle.exh_notice.specs.declared.entry.Kind.{Kind}
-use Rattle.exh_notice.specs.declared.entry.Kind.TheVariants.{Split, Merge}
+use Rattle.exh_table.specs.declared.Entry.{Entry}
+use Rattle.exh_table.specs.declared.Kind.{Kind}
+use Rattle.exh_table.specs.declared.Kind.TheVariants.{Split, Merge}
 use Rattle.exh_prefix.specs.PrefixListLemmas.{first_part, is_equal, second_part}
 use Rattle.exh_table.specs.Table.{TableMap}
 use Rattle.exh_table.specs.TableWalk.{right_of, right_of_kind, split_at}

@@ -12,9 +12,9 @@ use Rattle.exh_prefix.specs.declared.prefix.TheConstants.{LIMIT}
 use Rattle.exh_prefix.specs.Prefix.{IsFront, Begins, HasPrefix, low_of}
 use Rattle.exh_prefix.specs.PrefixLemmas.{begins_low, front_of_front, fronts_nest, length-stored, low_of-left_child, low_of-stored, parent_begins}
 use Rattle.exh_prefix.specs.BitLemmas.{number_of-zeros}
-use Rattle.exh_notice.specs.declared.entry.Entry.{Entry}
-use Rattle.exh_notice.specs.declared.entry.Kind.{Kind}
-use Rattle.exh_notice.specs.declared.entry.Kind.TheVariants.{Split, Merge}
+use Rattle.exh_table.specs.declared.Entry.{Entry}
+use Rattle.exh_table.specs.declared.Kind.{Kind}
+use Rattle.exh_table.specs.declared.Kind.TheVariants.{Split, Merge}
 use Rattle.exh_table.specs.Table.{TableMap}
 use Rattle.exh_table.specs.TableWalk.{right_of, split_at}
 use Rattle.exh_page.specs.declared.page.Page.{Page}

@@ -5,7 +5,7 @@ use Rattle.std.specs.FinMap as fin
 use Rattle.std.proofs.lemmas.Bool.{false≢true}
 use Rattle.exh_prefix.specs.declared.prefix.TheConstants.{LIMIT}
 use Rattle.exh_prefix.specs.Prefix.{low_of, prefix_cmp}
-use Rattle.exh_notice.specs.declared.entry.Entry.{Entry}
+use Rattle.exh_table.specs.declared.Entry.{Entry}
 use Rattle.exh_table.specs.Table.{TableMap}
 use Rattle.exh_table.specs.TableWalk.{right_of}
 use Rattle.exh_table.specs.Leaves.{leaves_in, ward_leaves}

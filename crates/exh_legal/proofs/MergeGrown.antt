@@ -2,8 +2,8 @@
 use Rattle.std.proofs.Common.{◌≡◌, ℕ, ◌<◌, Bool, true, false, List, [], ◌∷◌, ◌++◌, Option, inl, inr, sym, ap, ◌∙◌, subst, arith}
 use Rattle.std.proofs.lemmas.Bool.{cases_eq}
 use Rattle.exh_prefix.specs.Prefix.{low_of}
-use Rattle.exh_notice.specs.declared.entry.Kind.TheVariants.{Merge}
-use Rattle.exh_notice.specs.declared.notice.Notice.{Notice}
+use Rattle.exh_table.specs.declared.Kind.TheVariants.{Merge}
+use Rattle.exh_table.specs.declared.Notice.{Notice}
 use Rattle.exh_table.specs.Table.{TableMap}
 use Rattle.exh_table.specs.Leaves.{PrefixSet, after_kind, after_merge, leaves_in, ward_leaves}
 use Rattle.exh_table.specs.ChangeLemmas.{leaves_push_to, leaves_push_from}

@@ -11,7 +11,7 @@ use Rattle.exh_prefix.specs.BitLemmas.{length-bits_of, number_of-bits_of}
 use Rattle.exh_prefix.specs.declared.prefix.TheConstants.{LIMIT}
 use Rattle.exh_prefix.specs.Prefix.{HasPrefix, low_of, prefix_cmp}
 use Rattle.exh_prefix.specs.PrefixLemmas.{HasPrefix-low_of, low_of-product, take-low_of}
-use Rattle.exh_notice.specs.declared.entry.Entry.{Entry}
+use Rattle.exh_table.specs.declared.Entry.{Entry}
 use Rattle.exh_table.specs.Table.{TableMap}
 use Rattle.exh_prefix.specs.Leading.{ward_prefix}
 use Rattle.exh_legal.proofs.Fits.{same_child}

@@ -10,7 +10,7 @@ use Rattle.exh_prefix.specs.BitLemmas.{length-bits_of}
 use Rattle.exh_prefix.specs.Leading.{ward_prefix}
 use Rattle.exh_prefix.specs.Prefix.{prefix_cmp}
 use Rattle.exh_prefix.specs.declared.prefix.TheConstants.{LIMIT}
-use Rattle.exh_notice.specs.declared.entry.Entry.{Entry}
+use Rattle.exh_table.specs.declared.Entry.{Entry}
 use Rattle.exh_legal.specs.LegalLaws.{EntriesAreFew}
 use Rattle.exh_table.specs.Table.{TableMap}
 use Rattle.exh_legal.specs.LegalParts.{FileParts, HasPartRanges, table_of}

@@ -7,10 +7,10 @@ use Rattle.std.proofs.lemmas.List.{length_push}
 use Rattle.exh_prefix.specs.declared.prefix.TheConstants.{LIMIT}
 use Rattle.exh_prefix.specs.Prefix.{IsFront, Begins, low_of}
 use Rattle.exh_prefix.specs.PrefixLemmas.{front_of_front}
-use Rattle.exh_notice.specs.declared.entry.Entry.{Entry}
-use Rattle.exh_notice.specs.declared.entry.Kind.TheVariants.{Split, Merge}
-use Rattle.exh_notice.specs.declared.notice.Notice.{Notice}
-use Rattle.exh_notice.specs.Entry.{entry_of}
+use Rattle.exh_table.specs.declared.Entry.{Entry}
+use Rattle.exh_table.specs.declared.Kind.TheVariants.{Split, Merge}
+use Rattle.exh_table.specs.declared.Notice.{Notice}
+use Rattle.exh_table.specs.Entry.{entry_of}
 use Rattle.exh_table.specs.Table.{TableMap, table_with}
 use Rattle.exh_table.specs.TableWalk.{right_of, split_at}
 use Rattle.exh_page.specs.declared.page.Page.{Page}

@@ -3,8 +3,8 @@ use Rattle.std.proofs.Common.{◌≡◌, ℕ, ◌<◌, Bool, true, false, List, 
 use Rattle.std.proofs.lemmas.Bool.{cases_eq}
 use Rattle.std.proofs.lemmas.List.Elements.{Contains-push, Contains-push_cases, Contains-append_left}
 use Rattle.exh_prefix.specs.Prefix.{low_of}
-use Rattle.exh_notice.specs.declared.entry.Kind.TheVariants.{Split}
-use Rattle.exh_notice.specs.declared.notice.Notice.{Notice}
+use Rattle.exh_table.specs.declared.Kind.TheVariants.{Split}
+use Rattle.exh_table.specs.declared.Notice.{Notice}
 use Rattle.exh_table.specs.Table.{TableMap}
 use Rattle.exh_table.specs.Leaves.{PrefixSet, after_kind, after_split, leaves_in, ward_leaves}
 use Rattle.exh_table.specs.ChangeLemmas.{leaves_push_to, leaves_push_from}

@@ -7,7 +7,7 @@ use Rattle.exh_prefix.specs.declared.prefix.TheConstants.{LIMIT}
 use Rattle.exh_prefix.specs.Bits.{word_bits}
 use Rattle.exh_prefix.specs.Prefix.{IsFront, Begins, low_of}
 use Rattle.exh_prefix.specs.PrefixLemmas.{fronts_nest, length-word_bits}
-use Rattle.exh_notice.specs.declared.notice.Notice.{Notice}
+use Rattle.exh_table.specs.declared.Notice.{Notice}
 use Rattle.exh_table.specs.declared.leaf.Leaf.{Leaf}
 use Rattle.exh_table.specs.Table.{TableMap}
 use Rattle.exh_table.specs.TableWalk.{split_at, step, walk_on, walk_in}

@@ -3,10 +3,10 @@ use Rattle.std.specs.Prelude.{◌≡◌, ◌↔◌, ℕ, ◌<◌, ◌≤◌, ◌
 use Rattle.std.specs.FinMap.{get}
 use Rattle.exh_prefix.specs.declared.prefix.TheConstants.{LIMIT}
 use Rattle.exh_prefix.specs.Prefix.{IsFront, low_of}
-use Rattle.exh_notice.specs.declared.entry.Entry.{Entry}
-use Rattle.exh_notice.specs.declared.entry.Kind.{Kind}
-use Rattle.exh_notice.specs.declared.entry.Kind.TheVariants.{Split, Merge}
-use Rattle.exh_notice.specs.declared.notice.Notice.{Notice}
+use Rattle.exh_table.specs.declared.Entry.{Entry}
+use Rattle.exh_table.specs.declared.Kind.{Kind}
+use Rattle.exh_table.specs.declared.Kind.TheVariants.{Split, Merge}
+use Rattle.exh_table.specs.declared.Notice.{Notice}
 use Rattle.exh_table.specs.Table.{TableMap}
 use Rattle.exh_table.specs.TableWalk.{split_at}
 use Rattle.exh_page.specs.declared.page.Page.{Page}

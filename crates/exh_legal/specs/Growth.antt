@@ -2,7 +2,7 @@
 use Rattle.std.specs.Prelude.{◌≡◌, ◌⊎◌, ◌↔◌, ℕ, ◌<◌, Bool, true, List, [], ◌∷◌, ◌++◌, Option, IsSome, Contains}
 use Rattle.std.specs.FinMap.{get}
 use Rattle.exh_prefix.specs.Prefix.{low_of}
-use Rattle.exh_notice.specs.declared.notice.Notice.{Notice}
+use Rattle.exh_table.specs.declared.Notice.{Notice}
 use Rattle.exh_table.specs.Table.{TableMap}
 use Rattle.exh_table.specs.Leaves.{ward_leaves}
 use Rattle.exh_page.specs.declared.page.Page.{Page}

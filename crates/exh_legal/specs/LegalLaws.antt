@@ -3,8 +3,8 @@ use Rattle.std.specs.Prelude.{◌≡◌, ℕ, ◌-◌, ◌+◌, ◌%◌, ◌^◌
 use Rattle.std.specs.FinMap as fin
 use Rattle.exh_prefix.specs.declared.prefix.TheConstants.{LIMIT}
 use Rattle.exh_prefix.specs.Prefix.{Begins, low_of}
-use Rattle.exh_notice.specs.declared.entry.Kind.TheVariants.{Split, Merge}
-use Rattle.exh_notice.specs.declared.notice.Notice.{Notice}
+use Rattle.exh_table.specs.declared.Kind.TheVariants.{Split, Merge}
+use Rattle.exh_table.specs.declared.Notice.{Notice}
 use Rattle.exh_table.specs.declared.leaf.Leaf.{Leaf}
 use Rattle.exh_table.specs.Table.{TableMap, table_with}
 use Rattle.exh_table.specs.Leaves.{ward_leaves}

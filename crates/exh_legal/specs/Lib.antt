@@ -1,3 +1,15 @@
+pub use Rattle.exh_table.specs.ImageLemmas
+pub use Rattle.exh_table.specs.NoticeByteLemmas
+pub use Rattle.exh_table.specs.NoticeImages
+pub use Rattle.exh_table.specs.NoticeLimits
+pub use Rattle.exh_page.specs.Keyers
+pub use Rattle.exh_page.specs.Page
+pub use Rattle.exh_page.specs.PageLimits
+pub use Rattle.exh_table.specs.TableLaws
+pub use Rattle.exh_table.specs.SetLemmas
+pub use Rattle.exh_table.specs.Table
+pub use Rattle.exh_table.specs.TableWalk
+pub use Rattle.exh_table.specs.WalkLemmas
 pub mod Pages
 pub mod Change
 pub mod Growth

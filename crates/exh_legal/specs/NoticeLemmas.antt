@@ -1,7 +1,7 @@
 -- Notices that are true of pages stay true where every page keeps its number and low bound.
 use Rattle.std.proofs.Common.{◌≡◌, Bool, List, [], ◌∷◌, ◌++◌, inl, inr, sym, ap, ◌∙◌, subst}
 use Rattle.std.proofs.lemmas.List.Elements.{Contains-push_cases}
-use Rattle.exh_notice.specs.declared.notice.Notice.{Notice}
+use Rattle.exh_table.specs.declared.Notice.{Notice}
 use Rattle.exh_page.specs.declared.page.Page.{Page}
 use Rattle.exh_page.specs.Page.{low_bound, with_records}
 use Rattle.exh_legal.specs.BareLemmas.{bare_at, at_bare, bare_low}

@@ -3,6 +3,10 @@
 #![tactic(auto)]
 
 pub use change_numbers::index_of;
+pub use exh_page::{FileSettings, Page, keyer_byte, keyer_of_byte};
+pub use exh_table::{
+    ENTRY_IMAGE_LEN, Entry, Join, Kind, Leaf, NoticeFault, Table, own_entries_give_the_table,
+};
 pub use file_tests::first_reason;
 pub use full_page::halved_prefix;
 pub use halves_fault::HalvesFault;

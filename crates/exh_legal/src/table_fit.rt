@@ -2,7 +2,7 @@ ghost use Rattle.std.specs.Prelude.{◌≡◌, ◌↔◌, ℕ, ◌<◌, ◌%◌,
 ghost use Rattle.std.specs.FinMap as map;
 ghost use Rattle.exh_prefix.specs.Prefix.{IsFront, low_of};
 ghost use Rattle.exh_prefix.specs.declared.prefix.TheConstants.{LIMIT};
-ghost use Rattle.exh_notice.specs.declared.entry.Entry.{Entry};
+ghost use Rattle.exh_table.specs.declared.Entry.{Entry};
 ghost use Rattle.exh_page.specs.declared.page.Page.{Page};
 ghost use Rattle.exh_legal.specs.Fit.{FitsPages, IsWardEntry, parity_of};
 ghost use Rattle.exh_legal.specs.Pages.{IsAt};
@@ -11,10 +11,9 @@ ghost use Rattle.exh_legal.specs.BuiltIndex.{AreIndex, EachOf, IsOwnEntry, IsRec
 ghost use Rattle.exh_legal.specs.Reasons.{HasLows, HasLeaves};
 
 use crate::built_index::{BuiltIndex, low_bound_of};
-use exh_notice::{Entry, Kind};
 use exh_page::{PageHead, PageList};
 use exh_prefix::{LIMIT, Prefix};
-use exh_table::Table;
+use exh_table::{Entry, Kind, Table};
 
 /// Whether a table fits the pages of a ward, whose leaves are legal: each entry is the one that the
 /// page of its right child's low bound calls for, and each page but the first has its entry. It takes

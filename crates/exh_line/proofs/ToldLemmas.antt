@@ -22,9 +22,9 @@ use Rattle.exh_calls.specs.declared.reply.Reply.{Reply}
 use Rattle.exh_calls.specs.declared.reply.Reply.TheVariants.{Is, None as Absent, New, Was, Full, Swapped, Differs}
 use Rattle.exh_ward.specs.declared.ward_fault.WardFault.{WardFault}
 use Rattle.exh_ward.specs.declared.ward_fault.WardFault.TheVariants.{NoPage, NotLive, NotFull, AtLimit, NoBuddy, BuddySplit, TooMany, Worn, Memory, Page}
-use Rattle.exh_event.specs.StepFault.{step_fault_number}
-use Rattle.exh_event.specs.declared.step_fault.StepFault.{StepFault}
-use Rattle.exh_event.specs.declared.step_fault.StepFault.TheVariants.{NoCopy, NoRequest, NoNotice, NoTable, NoWard, NameTaken, Ward}
+use Rattle.exh_walk.specs.StepFault.{step_fault_number}
+use Rattle.exh_walk.specs.declared.step_fault.StepFault.{StepFault}
+use Rattle.exh_walk.specs.declared.step_fault.StepFault.TheVariants.{NoCopy, NoRequest, NoNotice, NoTable, NoWard, NameTaken, Ward}
 use Rattle.exh_line.specs.LineAnswer.{answer_words, answer_text, request_text, told_answer, HasKindWidth, HasNoticeWidths, HasWidths, HasReplyWidths, HasByteValues}
 use Rattle.exh_line.specs.LineRefusal.{numbered_refusal, refusal_number}
 use Rattle.exh_line.specs.declared.answer.Answer.{Answer}

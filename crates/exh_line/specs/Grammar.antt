@@ -8,8 +8,8 @@ use Rattle.exh_text.specs.Numbers.{◌>>=◌, index_spelled, number_after, numbe
 use Rattle.exh_text.specs.declared.line_fault.LineFault.{LineFault}
 use Rattle.exh_calls.specs.declared.call.Call.{Call}
 use Rattle.exh_calls.specs.declared.call.Call.TheVariants.{Get, Put, Del, Swap}
-use Rattle.exh_event.specs.declared.event.Event.{Event}
-use Rattle.exh_event.specs.declared.event.Event.TheVariants.{Begin, Hop, Split, Merge, Deliver, Send, Combine, Restart}
+use Rattle.exh_walk.specs.declared.event.Event.{Event}
+use Rattle.exh_walk.specs.declared.event.Event.TheVariants.{Begin, Hop, Split, Merge, Deliver, Send, Combine, Restart}
 use Rattle.exh_line.specs.declared.line.Line.{Line}
 use Rattle.exh_line.specs.declared.line.Line.TheVariants.{Step, View as Seen}
 use Rattle.exh_line.specs.declared.view.View.{View}

@@ -2,8 +2,8 @@
 use Rattle.std.specs.Prelude.{ℕ}
 use Rattle.exh_text.specs.LineFault.{line_fault_number}
 use Rattle.exh_ward.specs.declared.ward_fault.WardFault.TheVariants.{TooMany}
-use Rattle.exh_event.specs.StepFault.{step_fault_number}
-use Rattle.exh_event.specs.declared.step_fault.StepFault.TheVariants.{Ward}
+use Rattle.exh_walk.specs.StepFault.{step_fault_number}
+use Rattle.exh_walk.specs.declared.step_fault.StepFault.TheVariants.{Ward}
 use Rattle.exh_line.specs.declared.refusal.Refusal.{Refusal}
 use Rattle.exh_line.specs.declared.refusal.Refusal.TheVariants.{Line, Step, Read, TooLong, OtherFile}
 

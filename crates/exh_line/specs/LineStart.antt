@@ -1,8 +1,8 @@
 -- Lines of the kinds that scripts have most, as far as they are read without their call.
 use Rattle.std.specs.Prelude.{◌≡◌, ℕ, List, Ok}
 use Rattle.exh_calls.specs.declared.call.Call.{Call}
-use Rattle.exh_event.specs.declared.event.Event.{Event}
-use Rattle.exh_event.specs.declared.event.Event.TheVariants as events
+use Rattle.exh_walk.specs.declared.event.Event.{Event}
+use Rattle.exh_walk.specs.declared.event.Event.TheVariants as events
 use Rattle.exh_text.specs.LineFault.{ranged}
 use Rattle.exh_line.specs.Grammar.{call_in_range, line_in_range, line_of, spelled_begin, spelled_call}
 use Rattle.exh_line.specs.declared.line.Line.TheVariants as lines

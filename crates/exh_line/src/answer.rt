@@ -1,13 +1,13 @@
 ghost use Rattle.std.specs.Prelude.{◌≡◌};
-ghost use Rattle.exh_event.specs.declared.event.Event.{Event as EventType};
+ghost use Rattle.exh_walk.specs.declared.event.Event.{Event as EventType};
 ghost use Rattle.exh_line.specs.LineAnswer.{copy_in, hop_answer, outcome_answer, request_in, table_in};
 ghost use Rattle.exh_line.specs.LineStart.{short_event};
 
 use crate::{Moves, Refusal, ShortStep, Told};
 use exh_calls::Reply;
-use exh_event::{Event, Outcome};
 use exh_notice::Notice;
 use exh_prefix::PageNo;
+use exh_walk::{Event, Outcome};
 use exh_ward::Hop;
 
 /// What a line of a script is answered, unless it asks for a view. Each variant is one printed line.

@@ -6,10 +6,10 @@ ghost use Rattle.exh_text.specs.Printing.{Keeps, place_text};
 
 use crate::{Answer, Moves, Refusal, ShortStep, Told};
 use exh_calls::Reply;
-use exh_event::Outcome;
 use exh_notice::Notice;
 use exh_prefix::PageNo;
 use exh_text::{push_entry, push_number, push_refused, push_reply, push_text};
+use exh_walk::Outcome;
 use std::alloc::AllocError;
 
 /// Adds the line that an answer prints.

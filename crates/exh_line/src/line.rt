@@ -1,14 +1,14 @@
 ghost use Rattle.std.specs.Prelude.{◌≡◌, option_map};
 ghost use Rattle.std.specs.Result.{result_map_both};
-ghost use Rattle.exh_event.specs.declared.event.Event.TheVariants.{Deliver, Hop as HopOn};
+ghost use Rattle.exh_walk.specs.declared.event.Event.TheVariants.{Deliver, Hop as HopOn};
 ghost use Rattle.exh_text.specs.LineFault.{ranged};
 ghost use Rattle.exh_line.specs.Grammar.{call_in_range, line_in_range, line_of, spelled_begin, spelled_call, spelled_change, spelled_copy_step, spelled_deliver, spelled_hop, spelled_in_flight, spelled_number, spelled_pair_of_numbers, spelled_view};
 ghost use Rattle.exh_line.specs.declared.line.Line.TheVariants.{Step};
 
 use crate::{CallWords, View};
 use exh_calls::Call;
-use exh_event::Event;
 use exh_text::{LineFault, Parts, parse_u32, parse_u32_after, parse_u64};
+use exh_walk::Event;
 
 /// A line of a script after its first, its numbers, key and value in their ranges. There may be no such
 /// request, copy, table, ward or page.

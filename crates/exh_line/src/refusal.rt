@@ -1,5 +1,5 @@
-use exh_event::StepFault;
 use exh_text::LineFault;
+use exh_walk::StepFault;
 use thiserror::Error;
 
 /// Why a line, a script or a run of it is refused.

@@ -3,9 +3,9 @@ use Rattle.std.proofs.Common.{◌≡◌, ℕ, ◌+◌, [], ◌∷◌, ◌++◌, 
 use Rattle.exh_calls.specs.declared.call.Call.{Call}
 use Rattle.exh_calls.specs.declared.reply.Reply.{Reply}
 use Rattle.exh_calls.specs.declared.diary_entry.DiaryEntry.{DiaryEntry}
-use Rattle.exh_live_file.specs.LiveFile.{SeatState}
+use Rattle.exh_live.specs.LiveFile.{SeatState}
 use Rattle.exh_live.specs.StormCalls.{AreStormCalls, storm_call}
-use Rattle.exh_live_file.specs.CursorPlaceLemmas.{one_more}
+use Rattle.exh_live.specs.CursorPlaceLemmas.{one_more}
 
 -- the seat is this caller's, which was answered so many calls
 abbrev pub IsServedSo : ℕ → ℕ → SeatState → Type 0

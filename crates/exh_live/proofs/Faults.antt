@@ -7,8 +7,8 @@ use Rattle.exh_keyer.specs.declared.sha_keyer.ShaKeyer.{ShaKeyer}
 use Rattle.exh_walk.specs.CallerWalk.{ask_fault_number}
 use Rattle.exh_walk.specs.declared.ask_fault.AskFault.{AskFault}
 use Rattle.exh_walk.specs.declared.ask_fault.AskFault.TheVariants.{Held as AskHeld, Memory as AskMemory, Page as AskPage}
-use Rattle.exh_live_file.specs.CursorPlaceLemmas.{AreFirst}
-use Rattle.exh_settings.specs.declared.storm_config.StormConfig.{StormConfig}
+use Rattle.exh_live.specs.CursorPlaceLemmas.{AreFirst}
+use Rattle.exh_page.specs.declared.storm_config.StormConfig.{StormConfig}
 use Rattle.exh_live.specs.Refusals.{Outcome, AreOutcomes, IsRefusedAs, IsRefusedCaller, IsRefusedCourier, IsRefusedKeeper, IsStormFault, IsWorkersFault, first_refusal}
 use Rattle.exh_live.specs.StormFault.{storm_fault_number}
 use Rattle.exh_live.specs.StormRounds.{IsCallerFault, IsCourierFault, IsKeeperFault}

@@ -3,3 +3,11 @@ mod Faults
 mod Outcomes
 mod RoundsOn
 mod Sums
+mod Counts
+mod FirstWard
+mod Order
+mod Parts
+mod Refusals
+mod Rounds
+mod ToBeTallied
+mod Walks

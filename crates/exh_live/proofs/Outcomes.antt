@@ -7,9 +7,9 @@ use Rattle.std.proofs.lemmas.Option.{slice_get_within}
 use Rattle.exh_keyer.specs.Pseudokey.{sha_pseudokey}
 use Rattle.exh_keyer.specs.declared.sha_keyer.ShaKeyer.{ShaKeyer}
 use Rattle.exh_table.specs.Table.{TableMap}
-use Rattle.exh_live_file.specs.LiveFile.{SeatState}
-use Rattle.exh_live_file.specs.CursorPlaceLemmas.{AreFirst, one_more}
-use Rattle.exh_settings.specs.declared.storm_config.StormConfig.{StormConfig}
+use Rattle.exh_live.specs.LiveFile.{SeatState}
+use Rattle.exh_live.specs.CursorPlaceLemmas.{AreFirst, one_more}
+use Rattle.exh_page.specs.declared.storm_config.StormConfig.{StormConfig}
 use Rattle.exh_live.specs.StormRounds.{IsCallerFault}
 use Rattle.exh_live.specs.Refusals.{Outcome, IsRefusedCaller, IsRefusedCourier, IsRefusedKeeper, IsWorkersFault, first_refusal}
 use Rattle.exh_live.specs.StormCalls.{IsServed}

@@ -10,9 +10,9 @@ use Rattle.exh_walk.specs.declared.ask_fault.AskFault.TheVariants.{Held as AskHe
 use Rattle.exh_ward.specs.WardFault.{IsStoreFault, ward_fault_number}
 use Rattle.exh_ward.specs.declared.ward_fault.WardFault.{WardFault}
 use Rattle.exh_ward.specs.declared.ward_fault.WardFault.TheVariants.{NoPage, NotLive, NotFull, AtLimit, NoBuddy, BuddySplit, TooMany, Worn, Memory as WardMemory, Page as OutOfReach}
-use Rattle.exh_live_file.specs.Locked.{IsAsked, IsFirstPage}
-use Rattle.exh_live_file.specs.CursorPlaceLemmas.{one_more}
-use Rattle.exh_live_file.specs.Rounds.{IsKeeperRound}
+use Rattle.exh_live.specs.Locked.{IsAsked, IsFirstPage}
+use Rattle.exh_live.specs.CursorPlaceLemmas.{one_more}
+use Rattle.exh_live.specs.Rounds.{IsKeeperRound}
 use Rattle.exh_live.specs.StormCalls.{storm_call}
 use Rattle.exh_live.specs.StormFault.{storm_fault_number}
 use Rattle.exh_live.specs.StormRounds.{AreCourierRounds, AreKeeperRounds, IsCallerFault, IsCourierRound, IsKeeperFault}

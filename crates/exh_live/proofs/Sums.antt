@@ -7,8 +7,8 @@ use Rattle.std.proofs.lemmas.List.Sums.{sum_by-cons}
 use Rattle.std.proofs.lemmas.Nat.{mul-le}
 use Rattle.exh_calls.specs.Diary.{DiaryState}
 use Rattle.exh_calls.specs.Settled.{answer_count}
-use Rattle.exh_live_file.specs.Closing.{AreDiariesOf, seat_of}
-use Rattle.exh_live_file.specs.LiveFile.{SeatState}
+use Rattle.exh_live.specs.Closing.{AreDiariesOf, seat_of}
+use Rattle.exh_live.specs.LiveFile.{SeatState}
 use Rattle.exh_live.specs.StormCalls.{AreServed, IsServed}
 use Rattle.exh_live.specs.declared.fault.StormFault.{StormFault}
 

@@ -8,10 +8,10 @@ use Rattle.exh_calls.specs.Diary.{DiaryState}
 use Rattle.exh_calls.specs.Settled.{IsSettled, answer_count}
 use Rattle.exh_ward.specs.WardState.{WardState}
 use Rattle.exh_ward.specs.declared.ward_fault.WardFault.TheVariants.{Page as OutOfReach}
-use Rattle.exh_live_file.specs.Closing.{AreInOrder, entries_made, answers_given}
-use Rattle.exh_live_file.specs.CursorPlaceLemmas.{AreFirst}
-use Rattle.exh_live_file.specs.Refused.{IsSomeWardsFault}
-use Rattle.exh_settings.specs.declared.storm_config.StormConfig.{StormConfig}
+use Rattle.exh_live.specs.Closing.{AreInOrder, entries_made, answers_given}
+use Rattle.exh_live.specs.CursorPlaceLemmas.{AreFirst}
+use Rattle.exh_live.specs.Refused.{IsSomeWardsFault}
+use Rattle.exh_page.specs.declared.storm_config.StormConfig.{StormConfig}
 use Rattle.exh_live.specs.StormCalls.{AreServed}
 use Rattle.exh_live.specs.StormRounds.{IsCallerFault, IsCourierFault, IsKeeperFault}
 use Rattle.exh_live.specs.declared.courier.TheConstants.{COURIER_CLIENT}

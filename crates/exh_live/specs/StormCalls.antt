@@ -4,8 +4,8 @@ use Rattle.exh_calls.specs.declared.call.Call.{Call}
 use Rattle.exh_calls.specs.declared.call.Call.TheVariants.{Get, Put, Del}
 use Rattle.exh_calls.specs.Diary.{DiaryState}
 use Rattle.exh_calls.specs.declared.diary_entry.DiaryEntry.{DiaryEntry}
-use Rattle.exh_live_file.specs.Closing.{seat_of}
-use Rattle.exh_live_file.specs.LiveFile.{SeatState}
+use Rattle.exh_live.specs.Closing.{seat_of}
+use Rattle.exh_live.specs.LiveFile.{SeatState}
 
 -- the key of a caller's call of this number
 abbrev pub storm_key : ℕ → ℕ → List ℕ

@@ -6,7 +6,7 @@ use Rattle.exh_calls.specs.Diary.{DiaryState}
 use Rattle.exh_calls.specs.Settled.{IsSettled, answer_count}
 use Rattle.exh_ward.specs.WardState.{WardState}
 use Rattle.exh_live.specs.StormCalls.{AreServed}
-use Rattle.exh_settings.specs.declared.storm_config.StormConfig.{StormConfig}
+use Rattle.exh_page.specs.declared.storm_config.StormConfig.{StormConfig}
 
 -- the journals of the wards, by number, and the diaries are settled; each diary has its caller's first calls, as many as it was to make, in order; and the
 -- diaries have so many answers, which is what the callers were to ask together

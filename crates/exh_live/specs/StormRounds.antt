@@ -6,9 +6,9 @@ use Rattle.exh_copy.specs.Additions.{Additions, Held as HeldByCopy}
 use Rattle.exh_copy.specs.declared.addition.Addition.TheVariants.{Take}
 use Rattle.exh_walk.specs.CallerWalk.{ask_fault_number}
 use Rattle.exh_walk.specs.declared.ask_fault.AskFault.{AskFault}
-use Rattle.exh_live_file.specs.Locked.{IsAsked, IsFirstPage}
-use Rattle.exh_live_file.specs.CursorPlaceLemmas.{AreFirst}
-use Rattle.exh_live_file.specs.Rounds.{AreCarried, IsKeeperRound}
+use Rattle.exh_live.specs.Locked.{IsAsked, IsFirstPage}
+use Rattle.exh_live.specs.CursorPlaceLemmas.{AreFirst}
+use Rattle.exh_live.specs.Rounds.{AreCarried, IsKeeperRound}
 use Rattle.exh_live.specs.StormCalls.{storm_call}
 use Rattle.exh_live.specs.StormFault.{storm_fault_number}
 use Rattle.exh_live.specs.declared.fault.StormFault.{StormFault}

@@ -1,13 +1,12 @@
 ghost use Rattle.std.specs.Prelude.{◌≡◌, [], IfOk, IfErr};
-ghost use Rattle.exh_live_file.specs.Refused.{IsSomeWardsFault};
+ghost use Rattle.exh_live.specs.Refused.{IsSomeWardsFault};
 ghost use Rattle.exh_ward.specs.declared.ward_fault.WardFault.TheVariants.{Page as OutOfReach};
 ghost use Rattle.exh_live.specs.StormCalls.{IsServed};
 ghost use Rattle.exh_live.specs.StormRounds.{IsCallerFault};
 
-use crate::{StormFault, Watch, storm_call};
+use crate::{Identity, LiveFile, Seat, StormFault, Watch, storm_call};
 use exh_copy::{CopyReader, Start};
 use exh_keyer::Keyer;
-use exh_live_file::{Identity, LiveFile, Seat};
 use exh_stores::Pages;
 use exh_walk::Gate;
 use std::sync::Wait;

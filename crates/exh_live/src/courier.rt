@@ -1,14 +1,13 @@
 ghost use Rattle.std.specs.Prelude.{◌≡◌, ◌+◌, ◌≤◌, ◌^◌, ℕ, List, IfOk, IfErr};
 ghost use Rattle.std.specs.FinMap as map;
 ghost use Rattle.exh_prefix.specs.declared.prefix.TheConstants.{WARD_BITS_LIMIT};
-ghost use Rattle.exh_live_file.specs.Rounds.{AreFirstCursors};
+ghost use Rattle.exh_live.specs.Rounds.{AreFirstCursors};
 ghost use Rattle.exh_live.specs.StormRounds.{AreCourierRounds, IsCourierFault};
 ghost use Rattle.exh_live.specs.declared.courier.TheConstants.{COURIER_CLIENT};
 
-use crate::{OpenCopy, StormFault, Watch};
+use crate::{Cursors, Identity, LiveFile, OpenCopy, StormFault, Watch};
 use exh_copy::Start;
 use exh_keyer::Keyer;
-use exh_live_file::{Cursors, Identity, LiveFile};
 use exh_stores::Pages;
 use exh_table::Table;
 use exh_walk::Gate;

@@ -1,12 +1,12 @@
 ghost use Rattle.std.specs.Prelude.{◌≡◌};
-ghost use Rattle.exh_live_file.specs.Closing.{close_fault_number};
+ghost use Rattle.exh_live.specs.Closing.{close_fault_number};
 ghost use Rattle.exh_walk.specs.CallerWalk.{ask_fault_number};
 ghost use Rattle.exh_ward.specs.WardFault.{IsStoreFault, ward_fault_number};
 ghost use Rattle.exh_live.specs.StormFault.{storm_fault_number};
 ghost use Rattle.exh_live.specs.declared.fault.StormFault.TheVariants.{Memory, Mismatch as NotSettled, Seats};
 
+use crate::{CloseFault, NoSeat};
 use exh_calls::Mismatch;
-use exh_live_file::{CloseFault, NoSeat};
 use exh_walk::AskFault;
 use exh_ward::WardFault;
 use std::alloc::{AllocError, AllocFailed};

@@ -3,15 +3,14 @@ ghost use Rattle.std.specs.Prelude.{◌≡◌, ◌<◌, ◌^◌, map, IfOk, IfEr
 ghost use Rattle.exh_prefix.specs.Leading.{ward_of};
 ghost use Rattle.exh_calls.specs.Settled.{IsSettled, answer_count};
 ghost use Rattle.exh_keyer.specs.Pseudokey.{sha_pseudokey};
-ghost use Rattle.exh_live_file.specs.declared.ledgers.TheConstants.{ANSWER_PARTS, ENTRY_PARTS};
-ghost use Rattle.exh_settings.specs.StormConfig.{IsStormConfig};
+ghost use Rattle.exh_live.specs.declared.ledgers.TheConstants.{ANSWER_PARTS, ENTRY_PARTS};
+ghost use Rattle.exh_page.specs.StormConfig.{IsStormConfig};
 ghost use Rattle.exh_live.specs.declared.fault.StormFault.TheVariants.{Mismatch as NotSettled};
 
-use crate::StormFault;
+use crate::{Closed, Identity, LiveFile, StormFault, WardJournals};
 use exh_calls::{Diary, settle};
 use exh_keyer::ShaKeyer;
-use exh_live_file::{Closed, Identity, LiveFile, WardJournals};
-use exh_settings::{FileSettings, StormConfig};
+use exh_page::{FileSettings, StormConfig};
 use exh_stores::{Pages, StoreMaker};
 use exh_ward::{Ward, new_wards};
 use std::alloc::{AllocError, Global};

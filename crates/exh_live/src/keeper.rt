@@ -1,12 +1,11 @@
 ghost use Rattle.std.specs.Prelude.{◌+◌, ◌^◌, ◌<◌, IfOk, IfErr};
-ghost use Rattle.exh_live_file.specs.Refused.{IsSomeWardsFault};
+ghost use Rattle.exh_live.specs.Refused.{IsSomeWardsFault};
 ghost use Rattle.exh_ward.specs.declared.ward_fault.WardFault.TheVariants.{Page as OutOfReach};
 ghost use Rattle.exh_live.specs.StormRounds.{AreKeeperRounds, IsKeeperFault};
 ghost use Rattle.exh_live.specs.declared.keeper.TheConstants.{KEEPER_CLIENT};
 
-use crate::{StormFault, Watch};
+use crate::{Identity, LiveFile, StormFault, Watch};
 use exh_keyer::Keyer;
-use exh_live_file::{Identity, LiveFile};
 use exh_stores::Pages;
 use exh_walk::Gate;
 use std::sync::Wait;

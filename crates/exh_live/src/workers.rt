@@ -2,14 +2,13 @@
 ghost use Rattle.std.specs.Prelude.{◌≡◌, ◌+◌, ◌<◌, ◌≤◌, [], vec_len, OnOk, IfOk};
 ghost use Rattle.std.specs.FinMap as map;
 ghost use Rattle.exh_prefix.specs.declared.prefix.TheConstants.{WARD_BITS_LIMIT};
-ghost use Rattle.exh_live_file.specs.CursorPlaceLemmas.{AreFirst};
-ghost use Rattle.exh_settings.specs.StormConfig.{IsStormConfig};
+ghost use Rattle.exh_live.specs.CursorPlaceLemmas.{AreFirst};
+ghost use Rattle.exh_page.specs.StormConfig.{IsStormConfig};
 
 use crate::file::StormFile;
-use crate::{Caller, Courier, OpenCopy};
+use crate::{Caller, Courier, Identity, OpenCopy};
 use exh_copy::{CopyReader, NewCopyFault, Start, new_copy};
-use exh_live_file::Identity;
-use exh_settings::StormConfig;
+use exh_page::StormConfig;
 use exh_stores::Pages;
 use exh_table::Table;
 use std::alloc::{AllocError, Global};

@@ -7,7 +7,7 @@ use Rattle.exh_ward.specs.WardFault.{CountsFailures}
 use Rattle.exh_ward.specs.WardState.{WardState}
 use Rattle.exh_ward.specs.declared.ward_fault.WardFault.{WardFault}
 use Rattle.exh_ward.specs.declared.ward_fault.WardFault.TheVariants.{NoPage, NotLive, NotFull, AtLimit, NoBuddy, BuddySplit, TooMany, Worn, Memory as NoMemory, Page as OutOfReach}
-use Rattle.exh_settings.specs.declared.file_settings.FileSettings.{FileSettings}
+use Rattle.exh_page.specs.declared.file_settings.FileSettings.{FileSettings}
 use Rattle.exh_ward.specs.NewWardLemmas.{new_ward_at}
 use Rattle.exh_ward.specs.NewWards.{new_wards}
 use Rattle.exh_file.specs.Opened.{OpenedState, in_file}

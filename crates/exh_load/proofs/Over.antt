@@ -8,7 +8,7 @@ use Rattle.exh_table.specs.Table.{TableMap}
 use Rattle.exh_table.specs.TableLemmas.{get-table_join, joined, same_table}
 use Rattle.exh_table.specs.TableOrder.{table_join}
 use Rattle.exh_array.specs.Pointers.{DirectoryState}
-use Rattle.exh_settings.specs.declared.file_settings.FileSettings.{FileSettings}
+use Rattle.exh_page.specs.declared.file_settings.FileSettings.{FileSettings}
 use Rattle.exh_ward.specs.WardState.{WardState}
 use Rattle.exh_file.specs.Opened.{AreWardsOf, OpenedState, in_file, settings_in}
 use Rattle.exh_load.specs.Loader.{AreEach, IsDirectoryAt, IsLoading}

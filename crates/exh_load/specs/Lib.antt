@@ -1,3 +1,7 @@
+pub use Rattle.exh_file.specs.Draft
+pub use Rattle.exh_file.specs.FileChange
+pub use Rattle.exh_file.specs.Opened
+pub use Rattle.exh_file.specs.Opening
 pub mod LoadFault
 pub mod Put
 pub mod Loader

@@ -11,11 +11,11 @@ use Rattle.exh_text.specs.TextLines.{lines_of}
 use Rattle.exh_text.specs.declared.line_fault.LineFault.{LineFault}
 use Rattle.exh_stream.specs.Output.{Takes}
 use Rattle.exh_stream.specs.declared.output.Output.{Output}
-use Rattle.exh_settings.specs.Config.{file_settings}
-use Rattle.exh_settings.specs.declared.config.Config.{Config}
+use Rattle.exh_page.specs.Config.{file_settings}
+use Rattle.exh_page.specs.declared.config.Config.{Config}
 use Rattle.exh_text.specs.FileLine.{file_line_of}
 use Rattle.exh_text.specs.declared.settings.Settings.{Settings}
-use Rattle.exh_settings.specs.FileSettings.{are_same}
+use Rattle.exh_page.specs.FileSettings.{are_same}
 use Rattle.exh_file.specs.Opened.{OpenedState, settings_in}
 use Rattle.exh_load.specs.Loader.{IsLoading, LoaderState}
 use Rattle.exh_load.specs.Loading.{Loading, loaded_from, loading_in, loading_of, load_text_from}

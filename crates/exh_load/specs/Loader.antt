@@ -3,7 +3,7 @@ use Rattle.std.specs.Prelude.{◌≡◌, ◌⊎◌, ℕ, ◌≤◌, List, length
 use Rattle.std.specs.FinMap as map
 use Rattle.exh_keyer.specs.declared.any_keyer.AnyKeyer.{AnyKeyer}
 use Rattle.exh_array.specs.Pointers.{DirectoryState}
-use Rattle.exh_settings.specs.declared.file_settings.FileSettings.{FileSettings}
+use Rattle.exh_page.specs.declared.file_settings.FileSettings.{FileSettings}
 use Rattle.exh_ward.specs.NewWards.{new_wards}
 use Rattle.exh_calls.specs.declared.call.Call.TheVariants.{Put}
 use Rattle.exh_calls.specs.declared.reply.Reply.{Reply}

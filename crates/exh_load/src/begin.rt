@@ -8,9 +8,9 @@ ghost use Rattle.exh_load.specs.Loader.{file_in};
 use crate::Loader;
 use exh_file::Opened;
 use exh_keyer::AnyKeyer;
-use exh_notes::Listener;
-use exh_settings::Config;
+use exh_page::Config;
 use exh_stores::{Pages, StoreMaker};
+use exh_text::Listener;
 use std::alloc::{AllocError, Global};
 
 /// The loader of an opened file of these settings, or of a new one over stores that the maker makes. `None` where the

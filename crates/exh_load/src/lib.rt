@@ -1,6 +1,10 @@
 //! A text of pairs loaded into the wards of a file, with splits on demand.
 #![tactic(auto)]
 
+pub use exh_file::{
+    Draft, DraftFault, FileForm, Form, OpenFault, Opened, PlacedForm, SaveFault, Stamps, open,
+    open_form, open_over, read_file, write_file,
+};
 pub use history::HISTORY_LEN;
 pub use laws::loads_are_one_maps;
 pub use line_source::LINE_LEN;

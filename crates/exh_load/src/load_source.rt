@@ -15,11 +15,10 @@ use crate::number_line::{print_number, refuse};
 use crate::{LoadFault, Loader, load_lines};
 use exh_file::Opened;
 use exh_keyer::AnyKeyer;
-use exh_notes::Listener;
-use exh_settings::Config;
+use exh_page::Config;
 use exh_stores::{Pages, StoreMaker};
 use exh_stream::{InputFault, Output, Source};
-use exh_text::{Lines, parse_file_line};
+use exh_text::{Lines, Listener, parse_file_line};
 use std::alloc::Global;
 use std::io::{Read, Write};
 

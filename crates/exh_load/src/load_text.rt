@@ -8,10 +8,9 @@ ghost use Rattle.exh_load.specs.Loading.{after_pair_line, line_text, loaded_from
 use crate::pair_line::{parse_pair_line, push_reply};
 use crate::{LoadFault, Loader};
 use exh_calls::Reply;
-use exh_notes::Listener;
 use exh_stores::Pages;
 use exh_stream::Output;
-use exh_text::{Lines, push_refused, push_text};
+use exh_text::{Lines, Listener, push_refused, push_text};
 use std::alloc::Global;
 use std::io::Write;
 

@@ -10,10 +10,10 @@ use Rattle.exh_page.specs.Page.{records_of}
 use Rattle.exh_page.specs.declared.page.Page.{Page}
 use Rattle.exh_format.specs.PageFile.{pages_of}
 use Rattle.exh_ward.specs.WardState.{WardState}
-use Rattle.exh_file.specs.FileChange.{AreParts, HasMap, maps_in}
-use Rattle.exh_file.specs.Opened.{AreWardsOf, OpenedState}
-use Rattle.exh_file.specs.Reopened.{IsReopened}
-use Rattle.exh_file.specs.Saved.{pages_of_all}
+use Rattle.exh_in_place.specs.FileChange.{AreParts, HasMap, maps_in}
+use Rattle.exh_in_place.specs.Opened.{AreWardsOf, OpenedState}
+use Rattle.exh_in_place.specs.Reopened.{IsReopened}
+use Rattle.exh_in_place.specs.Saved.{pages_of_all}
 use Rattle.exh_map.specs.FileMap.{KeepsMap}
 use Rattle.exh_map.specs.Pairs.{pairs_in, pairs_of}
 use Rattle.exh_map.specs.declared.store_error.StoreError.{StoreError}

@@ -3,15 +3,15 @@ use Rattle.std.proofs.Common.{◌≡◌, ℕ, Bool, List, Option, None, Some, Re
 use Rattle.std.specs.FinMap as fin
 use Rattle.exh_keyer.specs.Pseudokey.{any_pseudokey}
 use Rattle.exh_page.specs.KeyMap.{KeyMap}
-use Rattle.exh_settings.specs.declared.file_settings.FileSettings.{FileSettings}
+use Rattle.exh_page.specs.declared.file_settings.FileSettings.{FileSettings}
 use Rattle.exh_keyer.specs.declared.any_keyer.AnyKeyer.{AnyKeyer}
 use Rattle.exh_calls.specs.Effect.{effect_of}
 use Rattle.exh_calls.specs.MapMachine.{changed, is_full, map_after, reply_of}
 use Rattle.exh_calls.specs.declared.call.Call.TheVariants.{Del, Get, Put}
 use Rattle.exh_calls.specs.declared.reply.Reply.{Reply}
 use Rattle.exh_ward.specs.declared.ward_fault.WardFault.{WardFault}
-use Rattle.exh_file.specs.FileChange.{ChangesOneMap, HasMap}
-use Rattle.exh_file.specs.Opened.{OpenedState, settings_in}
+use Rattle.exh_in_place.specs.FileChange.{ChangesOneMap, HasMap}
+use Rattle.exh_in_place.specs.Opened.{OpenedState, settings_in}
 use Rattle.exh_map.specs.Answers.{put_new_said, value_said}
 use Rattle.exh_map.specs.FileMap.{IsGot, IsPutAbsent, IsPutNew, IsPutOver, IsRemoved, IsReplaced, KeepsMap, PutsNew, Replaces}
 use Rattle.exh_map.specs.declared.put_new.PutNew.{PutNew}

@@ -15,12 +15,12 @@ use Rattle.exh_calls.specs.declared.reply.Reply.{Reply}
 use Rattle.exh_legal.specs.Pages.{map_of}
 use Rattle.exh_ward.specs.WardState.{IsUnchanged, WardState, history_begun}
 use Rattle.exh_ward.specs.declared.ward_fault.WardFault.{WardFault}
-use Rattle.exh_file.specs.FileChange.{AreParts, ChangesOneMap, maps_in, ward_in}
-use Rattle.exh_file.specs.InWardLemmas.{HasSettings, place, settings_kept, there}
-use Rattle.exh_file.specs.OneMapLemmas.{one_reply, parts_left}
-use Rattle.exh_file.specs.Opened.{AreWardsOf, IsWardOf, OpenedState}
-use Rattle.exh_file.specs.SplitLemmas.{splits_keep}
-use Rattle.exh_file.specs.WardChange.{AreSplitsAtMost, IsChanged}
+use Rattle.exh_in_place.specs.FileChange.{AreParts, ChangesOneMap, maps_in, ward_in}
+use Rattle.exh_in_place.specs.InWardLemmas.{HasSettings, place, settings_kept, there}
+use Rattle.exh_in_place.specs.OneMapLemmas.{one_reply, parts_left}
+use Rattle.exh_in_place.specs.Opened.{AreWardsOf, IsWardOf, OpenedState}
+use Rattle.exh_in_place.specs.SplitLemmas.{splits_keep}
+use Rattle.exh_in_place.specs.WardChange.{AreSplitsAtMost, IsChanged}
 use Rattle.exh_map.specs.FileMap.{IsAnsweredBy, IsSameMap, KeepsMap}
 use Rattle.exh_map.proofs.SetLemmas as set
 

@@ -7,9 +7,9 @@ use Rattle.exh_keyer.specs.Pseudokey.{any_pseudokey}
 use Rattle.exh_page.specs.KeyMap.{KeyMap}
 use Rattle.exh_legal.specs.Pages.{map_of}
 use Rattle.exh_ward.specs.WardState.{IsUnchanged, WardState}
-use Rattle.exh_file.specs.FileChange.{AreParts}
-use Rattle.exh_file.specs.Opened.{AreWardsOf, IsWardOf, OpenedState}
-use Rattle.exh_file.specs.Saved.{AreUnchanged}
+use Rattle.exh_in_place.specs.FileChange.{AreParts}
+use Rattle.exh_in_place.specs.Opened.{AreWardsOf, IsWardOf, OpenedState}
+use Rattle.exh_in_place.specs.Saved.{AreUnchanged}
 use Rattle.exh_map.specs.FileMap.{KeepsMap}
 
 abbrev pub own_map : WardState AnyKeyer → KeyMap

@@ -7,3 +7,5 @@ pub mod LeftLemmas
 pub mod AgainLemmas
 pub mod WholeMap
 pub mod OnceLemmas
+-- blocks that are copied one after the other
+pub mod CopyLemmas

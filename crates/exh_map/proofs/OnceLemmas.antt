@@ -10,14 +10,13 @@ use Rattle.std.specs.Cmp.Lexicographic.{slice_cmp}
 use Rattle.std.proofs.lemmas.Bool.{false_from_ne_true}
 use Rattle.std.proofs.lemmas.Cmp.{nat_list_cmp_total, tied_itself}
 use Rattle.std.proofs.lemmas.Map.Lookups.{exact_bytes}
-use Rattle.exh_prefix.specs.PrefixListLemmas.{is_equal}
+use Rattle.exh_prefix.specs.PrefixListLemmas.{is_equal, AllByRecursion-append, AllByRecursion-weaker}
 use Rattle.std.proofs.lemmas.List.{length-map, length-take, map-append}
 use Rattle.std.proofs.lemmas.Option.{slice_get-map, slice_get_within}
 use Rattle.exh_prefix.specs.BitLemmas.{length-bits_of, number_of-bits_of}
 use Rattle.exh_prefix.specs.Bits.{word_bits}
 use Rattle.exh_prefix.specs.Leading.{leading, ward_of, ward_prefix}
 use Rattle.exh_prefix.specs.LeadingLemmas.{leading-of_begun}
-use Rattle.exh_prefix.specs.PrefixListLemmas.{AllByRecursion-append, AllByRecursion-weaker}
 use Rattle.exh_prefix.specs.Prefix.{Begins}
 use Rattle.exh_prefix.specs.PrefixLemmas.{front_of_front}
 use Rattle.exh_keyer.specs.Pseudokey.{any_pseudokey}
@@ -36,9 +35,9 @@ use Rattle.exh_legal.specs.LegalPlaceLemmas.{home_bare}
 use Rattle.exh_legal.specs.Pages.{IsAt, IsHome, IsLegal, IsLegalPage, IsWithin}
 use Rattle.exh_format.specs.PageFile.{pages_of}
 use Rattle.exh_ward.specs.WardState.{WardState, own_prefix}
-use Rattle.exh_file.specs.FileChange.{HasMap, IsPart, maps_in}
-use Rattle.exh_file.specs.Opened.{AreWardsOf, IsWardOf, OpenedState}
-use Rattle.exh_file.specs.Saved.{AreSound, pages_of_all}
+use Rattle.exh_in_place.specs.FileChange.{HasMap, IsPart, maps_in}
+use Rattle.exh_in_place.specs.Opened.{AreWardsOf, IsWardOf, OpenedState}
+use Rattle.exh_in_place.specs.Saved.{AreSound, pages_of_all}
 use Rattle.exh_map.specs.Pairs.{AreOnce, pairs_in, pairs_of}
 use Rattle.exh_map.proofs.AgainLemmas.{all_pairs}
 use Rattle.exh_map.proofs.LeftLemmas.{own_map}

@@ -12,9 +12,9 @@ use Rattle.exh_keyer.specs.Pseudokey.{any_pseudokey}
 use Rattle.exh_page.specs.KeyMap.{KeyMap}
 use Rattle.exh_legal.specs.Pages.{map_of}
 use Rattle.exh_ward.specs.WardState.{IsUnchanged, WardState}
-use Rattle.exh_file.specs.FileChange.{AreParts, maps_in}
-use Rattle.exh_file.specs.InWardLemmas.{HasSettings}
-use Rattle.exh_file.specs.Opened.{AreWardsOf, OpenedState}
+use Rattle.exh_in_place.specs.FileChange.{AreParts, maps_in}
+use Rattle.exh_in_place.specs.InWardLemmas.{HasSettings}
+use Rattle.exh_in_place.specs.Opened.{AreWardsOf, OpenedState}
 use Rattle.exh_map.specs.FileMap.{IsSameMap, KeepsMap}
 
 pub unchanged_same : (old new : WardState AnyKeyer) → IsUnchanged old new → IsSameMap old new

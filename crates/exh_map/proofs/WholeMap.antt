@@ -14,8 +14,8 @@ use Rattle.exh_page.specs.KeyMap.{KeyMap}
 use Rattle.exh_page.specs.KeyMapLemmas.{same_maps}
 use Rattle.exh_legal.specs.Pages.{map_of}
 use Rattle.exh_ward.specs.WardState.{WardState}
-use Rattle.exh_file.specs.FileChange.{HasMap, IsPart}
-use Rattle.exh_file.specs.Opened.{AreWardsOf, OpenedState}
+use Rattle.exh_in_place.specs.FileChange.{HasMap, IsPart}
+use Rattle.exh_in_place.specs.Opened.{AreWardsOf, OpenedState}
 use Rattle.exh_map.specs.Pairs.{pairs_in, pairs_of}
 
 -- ---- what is found in lists of pairs

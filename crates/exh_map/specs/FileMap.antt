@@ -10,9 +10,9 @@ use Rattle.exh_calls.specs.declared.reply.Reply.{Reply}
 use Rattle.exh_keyer.specs.declared.any_keyer.AnyKeyer.{AnyKeyer}
 use Rattle.exh_legal.specs.Pages.{map_of}
 use Rattle.exh_ward.specs.WardState.{WardState}
-use Rattle.exh_file.specs.FileChange.{HasMap}
-use Rattle.exh_file.specs.InWardLemmas.{HasSettings}
-use Rattle.exh_file.specs.Opened.{OpenedState}
+use Rattle.exh_in_place.specs.FileChange.{HasMap}
+use Rattle.exh_in_place.specs.InWardLemmas.{HasSettings}
+use Rattle.exh_in_place.specs.Opened.{OpenedState}
 use Rattle.exh_map.specs.Answers.{put_new_said, put_said, swap_said, value_said}
 use Rattle.exh_map.specs.declared.put.Put.{Put as PutAnswer}
 use Rattle.exh_map.specs.declared.put_new.PutNew.{PutNew as PutNewAnswer}

@@ -1,3 +1,38 @@
+pub use Rattle.exh_in_place.specs.LegalPlaced
+pub use Rattle.exh_in_place.specs.PlacedFile
+pub use Rattle.exh_in_place.specs.FilePages
+pub use Rattle.exh_in_place.specs.FileLimits
+pub use Rattle.exh_in_place.specs.HomeLemmas
+pub use Rattle.exh_in_place.specs.InWardLemmas
+pub use Rattle.exh_in_place.specs.Opening
+pub use Rattle.exh_in_place.specs.Saved
+pub use Rattle.exh_in_place.specs.SplitLemmas
+pub use Rattle.exh_in_place.specs.TurnLemmas
+pub use Rattle.exh_in_place.specs.WardChange
+pub use Rattle.exh_format.specs.PageFile
+pub use Rattle.exh_format.specs.Reading
+pub use Rattle.exh_legal.specs.Pages
+pub use Rattle.exh_in_place.specs.SystemLimits
+pub use Rattle.exh_in_place.specs.LegalBytes
+pub use Rattle.exh_in_place.specs.VersionLaws
+pub use Rattle.exh_in_place.specs.VersionLemmas
+pub use Rattle.exh_ward.specs.NewWardLemmas
+pub use Rattle.exh_ward.specs.NewWards
+pub use Rattle.exh_ward.specs.WardState
+pub use Rattle.exh_in_place.specs.Batch
+pub use Rattle.exh_in_place.specs.Draft
+pub use Rattle.exh_in_place.specs.FileChange
+pub use Rattle.exh_in_place.specs.Opened
+pub use Rattle.exh_in_place.specs.Placing
+pub use Rattle.exh_in_place.specs.Refusals
+pub use Rattle.exh_in_place.specs.CallChange
+pub use Rattle.exh_in_place.specs.CallsChange
+pub use Rattle.exh_in_place.specs.FilesFault
+pub use Rattle.exh_in_place.specs.OwnLog
+pub use Rattle.exh_in_place.specs.SaveFilesFault
+pub use Rattle.exh_in_place.specs.Saving
+pub use Rattle.exh_in_place.specs.AnyAnswer
+pub use Rattle.exh_in_place.specs.PlacedLaws
 -- the answers of calls, the map of a file's wards, its pairs, why calls are refused, as for sizes, and what errors tell of a file
 pub mod Answers
 pub mod FileMap
@@ -5,3 +40,6 @@ pub mod Pairs
 pub mod CallFault
 pub mod Sizes
 pub mod Told
+-- why a page file isn't copied, and what copied blocks leave
+pub mod Backup
+pub mod Copy

@@ -1,10 +1,10 @@
 -- What an error tells of the file, by the refusal of a lower crate that it comes of.
 use Rattle.std.specs.Prelude.{⊤}
-use Rattle.exh_direct.specs.DirectLaws.{IsOtherFault}
-use Rattle.exh_direct.specs.declared.direct_fault.DirectFault.{DirectFault}
+use Rattle.exh_in_place.specs.DirectLaws.{IsOtherFault}
+use Rattle.exh_in_place.specs.declared.DirectFault.{DirectFault}
 use Rattle.exh_in_place.specs.Refusals.{IsOfState, MayBeSaved, TellsOfContent, TellsOfState}
 use Rattle.exh_in_place.specs.declared.refused.Refused.{Refused}
-use Rattle.exh_system.specs.declared.in_place_fault.InPlaceFault.{InPlaceFault}
+use Rattle.exh_in_place.specs.declared.InPlaceFault.{InPlaceFault}
 use Rattle.exh_map.specs.declared.store_error.StoreError.{StoreError}
 use Rattle.exh_map.specs.declared.store_error.StoreError.TheVariants.{Astray, Changed, Damaged, Illegal, NoHeader, NoPageFile, OldVersion, Trailing, Truncated, UnknownVersion, Unsure}
 

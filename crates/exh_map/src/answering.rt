@@ -3,17 +3,17 @@ ghost use Rattle.std.specs.Prelude.{◌≡◌, IfOk, OnErr};
 ghost use Rattle.exh_calls.specs.Call.{key_of};
 ghost use Rattle.exh_keyer.specs.Pseudokey.{any_pseudokey};
 ghost use Rattle.exh_prefix.specs.Prefix.{Begins};
-ghost use Rattle.exh_file.specs.FileChange.{ChangesOneMap};
-ghost use Rattle.exh_file.specs.Opened.{AreWardsOf, in_file};
+ghost use Rattle.exh_in_place.specs.FileChange.{ChangesOneMap};
+ghost use Rattle.exh_in_place.specs.Opened.{AreWardsOf, in_file};
 ghost use Rattle.exh_ward.specs.WardState.{own_prefix};
 ghost use Rattle.exh_map.specs.FileMap.{IsAnsweredBy, IsSameMap, KeepsMap};
 
 use crate::histories::renew;
 use exh_calls::{Call, Reply};
-use exh_file::change_ward;
+use exh_in_place::change_ward;
 use exh_keyer::{AnyKeyer, Keyer};
+use exh_page::FileSettings;
 use exh_prefix::ward_number;
-use exh_settings::FileSettings;
 use exh_stores::Pages;
 use exh_ward::{Ward, WardFault};
 

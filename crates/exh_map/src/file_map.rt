@@ -1,10 +1,10 @@
 //! The map of a page file, whose wards are in memory.
 ghost use Rattle.std.specs.Prelude.{◌≡◌, IfErr, IfOk, OnErr, OnOk};
-ghost use Rattle.exh_file.specs.FileChange.{ChangesOneMap, HasMap};
+ghost use Rattle.exh_in_place.specs.FileChange.{ChangesOneMap, HasMap};
 ghost use Rattle.exh_page.specs.KeyMap.{KeyMap};
 ghost use Rattle.std.specs.FinMap.{from_entries};
-ghost use Rattle.exh_file.specs.Opened.{AreWardsOf, settings_in};
-ghost use Rattle.exh_file.specs.Reopened.{IsReopened};
+ghost use Rattle.exh_in_place.specs.Opened.{AreWardsOf, settings_in};
+ghost use Rattle.exh_in_place.specs.Reopened.{IsReopened};
 ghost use Rattle.exh_map.specs.Answers.{value_said};
 ghost use Rattle.exh_map.specs.FileMap.{IsGot, IsPut, IsPutAbsent, IsPutNew, IsPutOver, IsRemoved, IsReplaced, IsSwap, KeepsMap};
 ghost use Rattle.exh_map.specs.Pairs.{AreOnce, pairs_in};
@@ -16,11 +16,9 @@ use crate::pairs::pairs_of;
 use crate::places::lows_grown;
 use crate::{Pairs, Put, PutNew, StoreError, Swap};
 use exh_calls::{Call, Reply};
-use exh_file::Opened;
-use exh_frames::FileStore;
+use exh_in_place::{FileStore, Opened};
 use exh_keyer::AnyKeyer;
-use exh_page::{Key, Value};
-use exh_settings::FileSettings;
+use exh_page::{FileSettings, Key, Value};
 use exh_stores::Pages;
 use exh_ward::{Ward, WardFault};
 use std::alloc::Global;
@@ -37,7 +35,7 @@ impl<P: Pages + Drop> Model for FileMap<P> {
     ghost use Rattle.std.specs.Coded.{codes};
     ghost use Rattle.exh_page.specs.KeyMap.{coded_key_map};
     ghost use Rattle.exh_table.specs.Table.{coded_table};
-    ghost use Rattle.exh_file.specs.Opened.{AreWardsOf, OpenedState, in_file};
+    ghost use Rattle.exh_in_place.specs.Opened.{AreWardsOf, OpenedState, in_file};
 
     ghost Value = { OpenedState };
 

@@ -1,15 +1,15 @@
 //! The pairs of a page file's map, page by page.
 ghost use Rattle.std.specs.Prelude.{◌≡◌, ◌++◌, IfOk, OnErr, OnOk, length, take};
 ghost use Rattle.std.specs.FinMap.{from_entries};
-ghost use Rattle.exh_file.specs.FileChange.{HasMap};
-ghost use Rattle.exh_file.specs.Opened.{AreWardsOf, in_file, settings_in};
+ghost use Rattle.exh_in_place.specs.FileChange.{HasMap};
+ghost use Rattle.exh_in_place.specs.Opened.{AreWardsOf, in_file, settings_in};
 ghost use Rattle.exh_map.specs.FileMap.{KeepsMap};
 ghost use Rattle.exh_map.specs.Pairs.{AreOnce, pairs_in};
 
 use crate::ward_pairs::push_ward;
 use exh_calls::{PackedPairs, Pairs as ReadPairs};
 use exh_keyer::AnyKeyer;
-use exh_settings::FileSettings;
+use exh_page::FileSettings;
 use exh_stores::Pages;
 use exh_ward::{Ward, WardFault};
 use std::alloc::Global;

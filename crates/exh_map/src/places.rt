@@ -1,13 +1,13 @@
 //! The places that pages have in a page file of version 3, once it is saved over.
 ghost use Rattle.std.specs.Prelude.{◌≡◌, ◌≤◌, OnErr, OnOk};
-ghost use Rattle.exh_file.specs.Opened.{AreWardsOf, in_file};
+ghost use Rattle.exh_in_place.specs.Opened.{AreWardsOf, in_file};
 ghost use Rattle.exh_prefix.specs.declared.prefix.TheConstants.{WARD_BITS_LIMIT};
 ghost use Rattle.exh_ward.specs.WardState.{IsUnchanged};
 ghost use Rattle.exh_map.specs.FileMap.{KeepsMap};
 
 use exh_keyer::{AnyKeyer, Keyer};
+use exh_page::FileSettings;
 use exh_prefix::ward_number;
-use exh_settings::FileSettings;
 use exh_stores::Pages;
 use exh_ward::{Ward, WardFault};
 use std::alloc::{AllocError, Global};

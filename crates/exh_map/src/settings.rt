@@ -1,5 +1,5 @@
 use exh_keyer::AnyKeyer;
-use exh_settings::FileSettings;
+use exh_page::FileSettings;
 
 /// The settings of a page file: a page holds at most `cap` records, 1 to 16; the file is cut into 2^`ward_bits` parts, 0 to
 /// 4; and the keyer that spreads keys over pages.

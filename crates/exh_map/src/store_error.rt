@@ -5,12 +5,12 @@ ghost use Rattle.exh_map.specs.Told.{IsChanged, IsOfReading, IsOfRefusal, IsOfUn
 ghost use Rattle.exh_map.specs.declared.store_error.StoreError.TheVariants.{Memory};
 
 use exh_codec::ImageFault;
-use exh_direct::DirectFault;
-use exh_disk::DiskFault;
-use exh_file::{DraftFault, FileFault, LegalFileFault, OpenFault, SaveFault};
-use exh_in_place::Refused;
+use exh_in_place::{
+    AboveLimit, DirectFault, DraftFault, FileFault, InPlaceFault, LegalFileFault, OpenFault,
+    Refused, SaveFault,
+};
 use exh_legal::Reason;
-use exh_system::{AboveLimit, InPlaceFault};
+use exh_saving::DiskFault;
 use exh_ward::WardFault;
 use std::alloc::{AllocError, AllocFailed};
 use std::io;

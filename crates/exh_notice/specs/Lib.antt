@@ -1,3 +1,6 @@
+pub use Rattle.exh_join.specs.Greater
+pub use Rattle.exh_join.specs.JoinLaws
+pub use Rattle.exh_join.specs.LawsLemmas
 pub mod Entry
 pub mod EntryLemmas
 pub mod NoticeFault
@@ -5,3 +8,4 @@ pub mod NoticeImages
 pub mod NoticeByteLemmas
 pub mod ImageLemmas
 pub mod NoticeLaws
+pub mod NoticeLimits

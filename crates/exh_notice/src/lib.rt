@@ -3,6 +3,7 @@
 
 pub use entry::{Entry, Kind};
 pub use entry_image::ENTRY_IMAGE_LEN;
+pub use exh_join::Join;
 pub use exh_prefix::PageNo;
 pub use laws::{equality_is_sameness, images_pass, one_value, order_is_by_number, order_is_total};
 pub use notice::Notice;

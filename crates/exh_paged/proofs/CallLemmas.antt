@@ -6,18 +6,18 @@ use Rattle.exh_page.specs.KeyMap.{KeyMap}
 use Rattle.exh_format.specs.Reading.{AreBytes}
 use Rattle.exh_cells.specs.LegalPlaced.{IsLegalPlacedFile}
 use Rattle.exh_cells.specs.PlacedFile.{PlacedFile}
-use Rattle.exh_direct.specs.declared.direct_fault.DirectFault.{DirectFault}
-use Rattle.exh_direct.specs.DirectLaws.{IsOtherFault}
-use Rattle.exh_edits.specs.declared.block_edit.BlockEdit.{BlockEdit}
-use Rattle.exh_edits.specs.BlockEdits.{with_edits}
-use Rattle.exh_edits.specs.EditsInTurn.{AreInTurn}
+use Rattle.exh_change.specs.declared.DirectFault.{DirectFault}
+use Rattle.exh_change.specs.DirectLaws.{IsOtherFault}
+use Rattle.exh_commit.specs.declared.BlockEdit.{BlockEdit}
+use Rattle.exh_commit.specs.BlockEdits.{with_edits}
+use Rattle.exh_commit.specs.EditsInTurn.{AreInTurn}
 use Rattle.exh_commit.specs.declared.change_fault.ChangeFault.{ChangeFault}
 use Rattle.exh_commit.specs.declared.change_fault.ChangeFault.TheVariants.{Open, Refused, Commit, LeftInLog}
 use Rattle.exh_commit.specs.declared.commit_fault.CommitFault.TheVariants.{Place, NotSaved, MaybeSaved}
 use Rattle.exh_commit.specs.Change.{IsCause, IsChanged, IsOldOrChanged, MayChange}
 use Rattle.exh_paged.specs.CallChange.{HasAnswer, HasPairs, HasState, HasStamps, IsAnswered, IsCalled, IsMade, IsOldOrCalled, IsStampedOver, MayMake, MayRefuse, OfLegal}
 use Rattle.exh_paged.specs.declared.files_fault.FilesFault.{FilesFault}
-use Rattle.exh_paged.specs.declared.files_fault.FilesFault.TheVariants.{OthersLog, NotAsOpened, Header, Read, Change}
+use Rattle.exh_paged.specs.declared.files_fault.FilesFault.TheVariants.{OthersLog, NotAsOpened, Header, Read, Uncopied, Change}
 use Rattle.exh_paged.specs.FilesFault.{ChangeFails, IsOfDisk}
 use Rattle.exh_paged.proofs.EditLemmas.{turn_at}
 
@@ -112,4 +112,5 @@ module _ {A : Type 0} (truthful : Bool) (Idle : Type 0) (pairs_after : PlacedFil
   fails_of_disk NotAsOpened cause = tt
   fails_of_disk (Header fault) cause = tt
   fails_of_disk (Read error) cause = tt
+  fails_of_disk (Uncopied error) cause = tt
   fails_of_disk (Change fault) cause = of_disk fault cause

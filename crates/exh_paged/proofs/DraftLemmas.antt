@@ -3,14 +3,14 @@ use Rattle.std.proofs.Common.{◌≡◌, ℕ, ◌*◌, Bool, List, [], ◌∷◌
 use Rattle.std.specs.Io.KnownBytes.{Appends}
 use Rattle.std.proofs.lemmas.Bool.{and_from, cond-true}
 use Rattle.sqlite_disk.specs.declared.Disk.{Ghosts}
-use Rattle.exh_edits.specs.declared.block_edit.BlockEdit.{BlockEdit}
-use Rattle.exh_edits.specs.BlockEdits.{with_edits}
-use Rattle.exh_edits.specs.Comparison.{AreDifferences, Comparison, EndsEarly, IsWholeBlocks, comparison_of, contents_of, pair_bytes}
+use Rattle.exh_commit.specs.declared.BlockEdit.{BlockEdit}
+use Rattle.exh_commit.specs.BlockEdits.{with_edits}
+use Rattle.exh_commit.specs.Comparison.{AreDifferences, Comparison, EndsEarly, IsWholeBlocks, comparison_of, contents_of, pair_bytes}
 use Rattle.exh_commit.specs.declared.paged_file.PagedFile.{PagedFile}
 use Rattle.exh_commit.specs.PagedFile.{IsReady, bytes_in, known_in, state_in}
 use Rattle.exh_file.specs.Draft.{DraftState, IsDraftSaving, bytes_in as draft_bytes}
-use Rattle.exh_edits.specs.declared.differing_fault.DifferingFault.{DifferingFault}
-use Rattle.exh_edits.specs.declared.differing_fault.DifferingFault.TheVariants.{Shorter}
+use Rattle.exh_commit.specs.declared.DifferingFault.{DifferingFault}
+use Rattle.exh_commit.specs.declared.DifferingFault.TheVariants.{Shorter}
 use Rattle.exh_paged.specs.declared.save_files_fault.SaveFilesFault.TheVariants.{Content}
 use Rattle.exh_paged.specs.SaveFilesFault.{IsOfContent}
 use Rattle.exh_paged.specs.Saving.{AreEditsToDraft, IsSavedOver}

@@ -1,10 +1,10 @@
 -- Edits that are in turn, none of a place twice.
 use Rattle.std.proofs.Common.{◌≡◌, ℕ, zero, suc, ◌+◌, ◌/◌, ◌≤◌, false, nat_eq, max, List, [], ◌∷◌, ◌++◌, length, slice_get, Some, refl, sym, ◌∙◌, ap, subst, arith}
 use Rattle.std.specs.List.{AllByRecursion, IsDistinct}
-use Rattle.exh_direct.specs.OnceLemmas.{differ}
-use Rattle.exh_edits.specs.declared.block_edit.BlockEdit.{BlockEdit}
-use Rattle.exh_edits.specs.EditLists.{HaveOwnPlaces}
-use Rattle.exh_edits.specs.EditsInTurn.{AreEdits, AreInTurn, places_of}
+use Rattle.exh_change.specs.OnceLemmas.{differ}
+use Rattle.exh_commit.specs.declared.BlockEdit.{BlockEdit}
+use Rattle.exh_commit.specs.EditLists.{HaveOwnPlaces}
+use Rattle.exh_commit.specs.EditsInTurn.{AreEdits, AreInTurn, places_of}
 use Rattle.exh_paged.specs.CallChange.{AreWithin}
 
 other_at : (edits : List BlockEdit) (place index : ℕ) (edit : BlockEdit) → AllByRecursion (λ (other : ℕ). nat_eq place other ≡ false) (places_of edits) → slice_get edits index ≡ Some edit → nat_eq place edit.place ≡ false

@@ -10,7 +10,7 @@ use Rattle.exh_commit.specs.declared.change_fault.ChangeFault.{ChangeFault}
 use Rattle.exh_commit.specs.declared.change_fault.ChangeFault.TheVariants.{Open, Refused, Commit, LeftInLog}
 use Rattle.exh_commit.specs.FilePages.{Leaves, LeavesAlone, LeavesAsFound, StandsFor, pages_of}
 use Rattle.exh_paged.specs.declared.files_fault.FilesFault.{FilesFault}
-use Rattle.exh_paged.specs.declared.files_fault.FilesFault.TheVariants.{OthersLog, NotAsOpened, Header, Read, Change}
+use Rattle.exh_paged.specs.declared.files_fault.FilesFault.TheVariants.{OthersLog, NotAsOpened, Header, Read, Uncopied, Change}
 use Rattle.exh_paged.specs.FilesFault.{ChangeFails, IsEarly}
 
 -- of a fault that came before the change nothing is said but of an opening
@@ -19,6 +19,7 @@ early_fails Holds opened OthersLog early = tt
 early_fails Holds opened NotAsOpened early = tt
 early_fails Holds opened (Header fault) early = tt
 early_fails Holds opened (Read error) early = tt
+early_fails Holds opened (Uncopied error) early = tt
 early_fails Holds opened (Change (Open error)) early = opened error
 early_fails Holds opened (Change (Refused fault)) early = absurd early
 early_fails Holds opened (Change (Commit fault)) early = absurd early

@@ -11,10 +11,10 @@ use Rattle.exh_calls.specs.declared.call.Call.TheVariants.{Get, Put}
 use Rattle.exh_calls.specs.declared.reply.Reply.{Reply}
 use Rattle.exh_cells.specs.LegalPlaced.{IsLegalPlacedFile}
 use Rattle.exh_cells.specs.PlacedFile.{PlacedFile}
-use Rattle.exh_edits.specs.declared.block_edit.BlockEdit.{BlockEdit}
-use Rattle.exh_edits.specs.BlockEdits.{with_edits}
-use Rattle.exh_walked.specs.PlacedLaws.{map_in}
-use Rattle.exh_change.specs.declared.changed.Changed.{Changed}
+use Rattle.exh_commit.specs.declared.BlockEdit.{BlockEdit}
+use Rattle.exh_commit.specs.BlockEdits.{with_edits}
+use Rattle.exh_change.specs.PlacedLaws.{map_in}
+use Rattle.exh_change.specs.declared.Changed.{Changed}
 use Rattle.exh_change.specs.ChangeLaws.{IsChange, map_then, reply_in}
 use Rattle.exh_paged.specs.CallChange.{AreWithin, IsMade, IsStamped}
 use Rattle.exh_paged.specs.PutIf.{call_for, call_in, edits_kept, reply_kept}

@@ -6,13 +6,13 @@ use Rattle.exh_codec.specs.declared.block.TheConstants.{BLOCK_LEN}
 use Rattle.exh_format.specs.Reading.{AreBytes}
 use Rattle.exh_cells.specs.LegalPlaced.{IsLegalPlacedFile}
 use Rattle.exh_cells.specs.PlacedFile.{PlacedFile}
-use Rattle.exh_direct.specs.declared.direct_fault.DirectFault.{DirectFault}
-use Rattle.exh_direct.specs.DirectLaws.{IsOtherFault}
-use Rattle.exh_edits.specs.declared.block_edit.BlockEdit.{BlockEdit}
-use Rattle.exh_edits.specs.BlockEdits.{with_edits}
-use Rattle.exh_edits.specs.EditLists.{HaveOwnPlaces}
-use Rattle.exh_edits.specs.EditsInTurn.{AreInTurn}
-use Rattle.exh_walked.specs.PlacedLaws.{map_in}
+use Rattle.exh_change.specs.declared.DirectFault.{DirectFault}
+use Rattle.exh_change.specs.DirectLaws.{IsOtherFault}
+use Rattle.exh_commit.specs.declared.BlockEdit.{BlockEdit}
+use Rattle.exh_commit.specs.BlockEdits.{with_edits}
+use Rattle.exh_commit.specs.EditLists.{HaveOwnPlaces}
+use Rattle.exh_commit.specs.EditsInTurn.{AreInTurn}
+use Rattle.exh_change.specs.PlacedLaws.{map_in}
 
 -- ---- pairs
 

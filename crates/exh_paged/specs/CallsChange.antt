@@ -2,7 +2,7 @@
 use Rattle.std.specs.Prelude.{◌≡◌, Bool, ℕ, List, [], IsTrue}
 use Rattle.exh_calls.specs.declared.call.Call.{Call}
 use Rattle.exh_cells.specs.PlacedFile.{PlacedFile}
-use Rattle.exh_batch.specs.Batch.{map_then_all, replies_in}
+use Rattle.exh_change.specs.Batch.{map_then_all, replies_in}
 use Rattle.exh_paged.specs.declared.answered.Answered.{Answered}
 use Rattle.exh_paged.specs.CallChange.{HasState, IsCalled, IsOldOrCalled}
 

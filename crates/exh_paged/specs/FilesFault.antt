@@ -1,6 +1,6 @@
 -- What a fault of a change tells of a file and its log, and when it comes.
 use Rattle.std.specs.Prelude.{⊤, List, ℕ}
-use Rattle.exh_direct.specs.DirectLaws.{IsOtherFault}
+use Rattle.exh_change.specs.DirectLaws.{IsOtherFault}
 use Rattle.exh_format.specs.FileTests.{IsWhole, block_at}
 use Rattle.exh_format.specs.FirstFailing.{IsFirstFailing}
 use Rattle.exh_format.specs.HeaderTests.{header_tests}
@@ -11,7 +11,7 @@ use Rattle.exh_commit.specs.declared.commit_fault.CommitFault.TheVariants.{Place
 use Rattle.exh_commit.specs.Change as changes
 use Rattle.exh_paged.specs.declared.expected.Expected.{Expected}
 use Rattle.exh_paged.specs.declared.files_fault.FilesFault.{FilesFault}
-use Rattle.exh_paged.specs.declared.files_fault.FilesFault.TheVariants.{OthersLog, NotAsOpened, Header, Read, Change}
+use Rattle.exh_paged.specs.declared.files_fault.FilesFault.TheVariants.{OthersLog, NotAsOpened, Header, Read, Uncopied, Change}
 use Rattle.exh_paged.specs.OwnLog.{IsInOther, IsOfOther}
 
 -- nothing was committed, and a crash leaves the bytes from before
@@ -20,6 +20,7 @@ IsUnchanged OthersLog = ⊤
 IsUnchanged NotAsOpened = ⊤
 IsUnchanged (Header fault) = ⊤
 IsUnchanged (Read error) = ⊤
+IsUnchanged (Uncopied error) = ⊤
 IsUnchanged (Change fault) = changes.IsUnchanged fault
 
 -- the edits were committed, and a crash leaves the bytes after them
@@ -28,14 +29,17 @@ IsSaved OthersLog = ⊥
 IsSaved NotAsOpened = ⊥
 IsSaved (Header fault) = ⊥
 IsSaved (Read error) = ⊥
+IsSaved (Uncopied error) = ⊥
 IsSaved (Change fault) = changes.IsSaved fault
 
--- it came before the change: the file isn't as is expected, its header couldn't be read, or the two couldn't be opened
+-- it came before the change: the file isn't as is expected, its header couldn't be read, what its log has couldn't be copied into
+-- it, or the two couldn't be opened
 abbrev pub IsEarly : FilesFault → Type 0
 IsEarly OthersLog = ⊤
 IsEarly NotAsOpened = ⊤
 IsEarly (Header fault) = ⊤
 IsEarly (Read error) = ⊤
+IsEarly (Uncopied error) = ⊤
 IsEarly (Change (Open error)) = ⊤
 IsEarly (Change (Refused fault)) = ⊥
 IsEarly (Change (Commit fault)) = ⊥
@@ -47,6 +51,7 @@ IsCause expected bytes OthersLog = IsOfOther expected bytes
 IsCause expected bytes NotAsOpened = IsInOther expected bytes
 IsCause expected bytes (Header fault) = IsWhole 0 bytes × IsFirstFailing (PassesStamped (block_at 0 bytes)) header_tests fault
 IsCause expected bytes (Read error) = ⊤
+IsCause expected bytes (Uncopied error) = ⊤
 IsCause expected bytes (Change fault) = ⊤
 
 -- nothing is refused for what the file has, and no edit strays: a read failed, a growth was refused, or the two files failed
@@ -64,4 +69,5 @@ ChangeFails Holds OthersLog = ⊤
 ChangeFails Holds NotAsOpened = ⊤
 ChangeFails Holds (Header fault) = ⊤
 ChangeFails Holds (Read error) = ⊤
+ChangeFails Holds (Uncopied error) = ⊤
 ChangeFails Holds (Change fault) = Holds fault

@@ -6,8 +6,8 @@ use Rattle.exh_calls.specs.declared.call.Call.TheVariants.{Get, Put}
 use Rattle.exh_calls.specs.declared.reply.Reply.{Reply}
 use Rattle.exh_calls.specs.declared.reply.Reply.TheVariants as reply
 use Rattle.exh_cells.specs.PlacedFile.{PlacedFile}
-use Rattle.exh_edits.specs.declared.block_edit.BlockEdit.{BlockEdit}
-use Rattle.exh_walked.specs.PlacedLaws.{map_in}
+use Rattle.exh_commit.specs.declared.BlockEdit.{BlockEdit}
+use Rattle.exh_change.specs.PlacedLaws.{map_in}
 use Rattle.exh_paged.specs.declared.put_if.KeyIs.{KeyIs}
 use Rattle.exh_paged.specs.declared.put_if.KeyIs.TheVariants.{New, There}
 use Rattle.exh_paged.specs.declared.put_if.PutIf.{PutIf}

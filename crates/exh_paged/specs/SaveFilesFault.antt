@@ -1,7 +1,7 @@
 -- What a fault of a save tells of a file and its log, and when it comes.
 use Rattle.std.specs.Prelude.{◌≡◌, ⊤, ℕ, List}
-use Rattle.exh_edits.specs.declared.differing_fault.DifferingFault.TheVariants.{Shorter}
-use Rattle.exh_edits.specs.Comparison.{EndsEarly}
+use Rattle.exh_commit.specs.declared.DifferingFault.TheVariants.{Shorter}
+use Rattle.exh_commit.specs.Comparison.{EndsEarly}
 use Rattle.exh_file.specs.Draft.{DraftState, bytes_in}
 use Rattle.exh_paged.specs.FilesFault as files
 use Rattle.exh_paged.specs.declared.expected.Expected.TheVariants.{Stamp}

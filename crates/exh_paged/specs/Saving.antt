@@ -1,8 +1,8 @@
 -- Wards that are saved over the file that they came of.
 use Rattle.std.specs.Prelude.{◌≡◌, ◌⊎◌, Bool, ℕ, List, Option, IfSome, IsTrue}
-use Rattle.exh_edits.specs.declared.block_edit.BlockEdit.{BlockEdit}
-use Rattle.exh_edits.specs.BlockEdits.{with_edits}
-use Rattle.exh_edits.specs.Comparison.{IsWholeBlocks}
+use Rattle.exh_commit.specs.declared.BlockEdit.{BlockEdit}
+use Rattle.exh_commit.specs.BlockEdits.{with_edits}
+use Rattle.exh_commit.specs.Comparison.{IsWholeBlocks}
 use Rattle.exh_file.specs.Draft.{DraftState, IsDraftSaving, bytes_in}
 
 -- ---- what is saved

@@ -10,7 +10,7 @@ ghost use Rattle.exh_paged.specs.OwnLog.{IsExpected};
 
 use crate::operated::Operated;
 use crate::{Expected, FilesFault, Operation, change_files};
-use exh_commit::Truthful;
+use exh_commit::{SeenFiles, Truthful};
 use sqlite_disk::Files;
 use sqlite_pager::Options;
 use std::alloc::Global;
@@ -21,11 +21,12 @@ use std::alloc::Global;
 /// and for those that the operation reads and changes.
 ///
 /// `OthersLog`: the log is another file's. `NotAsOpened`: the file has another stamp. `Header`: the header fails this test.
-/// `Read`: it couldn't be read. `Change`: the two couldn't be opened, what the operation reads is no legal page file or
-/// couldn't be read, or the blocks weren't saved, or may not have been, as the fault says.
+/// `Read`: it couldn't be read. `Uncopied`: what a cut-off run left in the log couldn't be copied into the file, and stands
+/// there still. `Change`: the two couldn't be opened, what the operation reads is no legal page file or couldn't be read, or
+/// the blocks weren't saved, or may not have been, as the fault says.
 pub fn answer_files<D: Truthful + Drop, O: Operation>(
     alloc: Global,
-    files: Files<D>,
+    files: SeenFiles<D>,
     options: Options,
     expected: Expected,
     operation: &O,

@@ -2,9 +2,8 @@
 
 use crate::Operation;
 use exh_calls::{Call, Reply};
-use exh_change::change;
-use exh_direct::{Blocks, DirectFault};
-use exh_edits::BlockEdit;
+use exh_change::{Blocks, DirectFault, change};
+use exh_commit::BlockEdit;
 use std::alloc::Global;
 
 // The reply is the map machine's. A get is idle.

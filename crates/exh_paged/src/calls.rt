@@ -1,20 +1,19 @@
 use crate::{Answered, Operation};
-use exh_batch::change_all;
 use exh_calls::Call;
-use exh_direct::{Blocks, DirectFault};
-use exh_edits::BlockEdit;
+use exh_change::{Blocks, DirectFault, change_all};
+use exh_commit::BlockEdit;
 use std::alloc::Global;
 
 /// Calls that are answered one after the other, and are one change.
 #[derive(Clone, Copy)]
-pub struct Calls<'c> {
-    pub calls: &'c [Call],
+pub(crate) struct Calls<'c> {
+    pub(crate) calls: &'c [Call],
 }
 
 // The replies are the map machine's. Without a call it is idle.
 impl Operation for Calls<'_> {
     ghost use Rattle.std.specs.Prelude.{◌≡◌, []};
-    ghost use Rattle.exh_batch.specs.Batch.{map_then_all};
+    ghost use Rattle.exh_change.specs.Batch.{map_then_all};
     ghost use Rattle.exh_paged.specs.CallsChange.{IsAnswerOfAll};
 
     type Answer = Answered;

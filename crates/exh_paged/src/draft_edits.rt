@@ -2,15 +2,14 @@
 ghost use Rattle.std.specs.Prelude.{◌≡◌, ◌≢◌, ◌↔◌, ℕ, List, IsTrue, IfErr, IfOk, IfSome, OnOk};
 ghost use Rattle.exh_commit.specs.FilePages.{Leaves};
 ghost use Rattle.exh_commit.specs.PagedFile.{IsHonest, IsReady, bytes_in, files_in, known_in, state_in};
-ghost use Rattle.exh_edits.specs.declared.differing_fault.DifferingFault.TheVariants.{Shorter};
+ghost use Rattle.exh_commit.specs.declared.DifferingFault.TheVariants.{Shorter};
 ghost use Rattle.exh_file.specs.Draft.{DraftState, IsDraftSaving, bytes_in as draft_bytes};
 ghost use Rattle.exh_paged.specs.SaveFilesFault.{IsCause, IsOfContent, IsSaved};
 ghost use Rattle.exh_paged.specs.Saving.{AreEditsToDraft};
 ghost use Rattle.exh_paged.specs.declared.save_files_fault.SaveFilesFault.TheVariants.{Content, Draft as Unwritten};
 
 use crate::SaveFilesFault;
-use exh_commit::{Asked, Before, PagedFile, Truthful};
-use exh_edits::{BlockEdit, Differing, DifferingFault};
+use exh_commit::{Asked, Before, BlockEdit, Differing, DifferingFault, PagedFile, Truthful};
 use exh_file::{Draft, SaveFault};
 use exh_stores::Pages;
 use std::alloc::Global;

@@ -12,7 +12,7 @@ use crate::draft_edits::edits_to;
 use crate::opening::open_expected;
 use crate::saving::save_edits;
 use crate::{Expected, SaveFilesFault};
-use exh_commit::Truthful;
+use exh_commit::{SeenFiles, Truthful};
 use exh_file::Draft;
 use exh_stores::Pages;
 use sqlite_disk::Files;
@@ -25,11 +25,11 @@ use std::marker::Brand;
 /// memory for the blocks that are kept, as many as the options say, and for those that are written.
 ///
 /// `Draft`: the wards couldn't be written. `Content`: they couldn't be compared with the file, or are shorter than it.
-/// `Files`: the two couldn't be opened, the file has another stamp, the header isn't one, or the edits weren't saved, or may
-/// not have been, as the fault says.
+/// `Files`: the two couldn't be opened, the file has another stamp, the header isn't one, what a cut-off run left in the log
+/// couldn't be copied, or the edits weren't saved, or may not have been, as the fault says.
 pub fn save_files<D: Truthful + Drop, P: Pages + Drop>(
     alloc: Global,
-    files: Files<D>,
+    files: SeenFiles<D>,
     options: Options,
     stamp: u64,
     draft: Draft<P>,

@@ -11,7 +11,7 @@ ghost use Rattle.exh_paged.specs.OwnLog.{IsExpected};
 
 use crate::opening::open_expected;
 use crate::{Expected, FilesFault};
-use exh_commit::{Changer, Truthful};
+use exh_commit::{Changer, SeenFiles, Truthful};
 use sqlite_disk::Files;
 use sqlite_pager::Options;
 use std::alloc::Global;
@@ -21,11 +21,12 @@ use std::alloc::Global;
 /// kept, as many as the options say, and for the edits.
 ///
 /// `OthersLog`: the log is another file's. `NotAsOpened`: the file has another stamp. `Header`: the header fails this test.
-/// `Read`: it couldn't be read. `Change`: the two couldn't be opened, the changer refused, or the edits weren't saved, or may
-/// not have been, as the fault says.
+/// `Read`: it couldn't be read. `Uncopied`: what a cut-off run left in the log couldn't be copied into the file, and stands
+/// there still. `Change`: the two couldn't be opened, the changer refused, or the edits weren't saved, or may not have been,
+/// as the fault says.
 pub fn change_files<D: Truthful + Drop, C: Changer>(
     alloc: Global,
-    files: Files<D>,
+    files: SeenFiles<D>,
     options: Options,
     expected: Expected,
     changer: &C,

@@ -18,6 +18,10 @@ pub enum FilesFault {
     /// The header couldn't be read. Nothing was changed.
     #[error("{0}")]
     Read(Error),
+    /// What a run that was cut off left in the log couldn't be copied into the file, and stands in the log still. Nothing of
+    /// this change was saved.
+    #[error("a change stands in the log beside the file, and can't be copied into it: {0}")]
+    Uncopied(Error),
     /// The two couldn't be opened, the changer refused, or the edits weren't saved, or may not have been, as the fault says.
     #[error("{0}")]
     Change(ChangeFault),

@@ -4,9 +4,17 @@
 
 pub use answered::Answered;
 pub use answering::answer_files;
-pub use call_file::CallFile;
-pub use calls::Calls;
 pub use draft_saving::save_files;
+pub use exh_cells::{StampedHeader, stamped_headers_pass};
+pub use exh_change::{Blocks, find_any};
+pub use exh_commit::{
+    ChangeFault, CommitFault, DifferingFault, LogFault, SeenFiles, Truthful, blocks_stand, see_log,
+};
+pub use exh_file::{
+    CHANGER, Draft, DraftFault, FileFault, FileForm, FileStore, Form, LegalFileFault, OpenFault,
+    Opened, PlacedForm, Placing, SaveFault, Stamps, change_file, change_ward,
+    legal_bytes_are_files, open, open_form, write_wards,
+};
 pub use expected::Expected;
 pub use files_change::change_files;
 pub use files_fault::FilesFault;
@@ -19,12 +27,9 @@ pub use state_calls::answer_over;
 mod answered;
 mod answering;
 mod call;
-mod call_file;
 mod calls;
 mod draft_edits;
 mod draft_saving;
-#[cfg(test)]
-mod examples;
 mod expected;
 mod files_change;
 mod files_fault;

@@ -4,26 +4,28 @@ ghost use Rattle.sqlite_disk.specs.Disk.{Only};
 ghost use Rattle.sqlite_wal.specs.Files.{seen_image};
 ghost use Rattle.sqlite_wal.specs.Reads.{AreClean};
 ghost use Rattle.sqlite_wal.specs.State.{Keeps};
-ghost use Rattle.exh_commit.specs.FilePages.{Leaves, StandsFor};
+ghost use Rattle.exh_commit.specs.FilePages.{Leaves, LeavesAlone, StandsFor};
 ghost use Rattle.exh_commit.specs.PagedFile.{IsHonest, IsReady, bytes_in, files_in, state_in};
 ghost use Rattle.exh_paged.specs.FilesFault.{IsCause, IsEarly, IsSaved};
 ghost use Rattle.exh_paged.specs.OwnLog.{IsExpected};
 
 use crate::header::header_in;
 use crate::{Expected, FilesFault};
-use exh_commit::{ChangeFault, PagedFile, open};
+use exh_commit::{ChangeFault, PagedFile, SeenFiles, open};
 use sqlite_disk::{Disk, Files};
 use sqlite_pager::Options;
 use std::alloc::Global;
 
-/// Opens a page file with its log, whatever a crash left of them, if it is in the state that is expected. It takes memory for
-/// the blocks that are kept, as many as the options say.
+/// Opens a page file with its log, whatever a crash left of them, if it is in the state that is expected, and copies what the
+/// log has into the file, so that a change begins with an empty log. It takes memory for the blocks that are kept, as many as
+/// the options say.
 ///
 /// An error, with the files: `OthersLog`, the log is another file's; `NotAsOpened`, the file has another stamp; `Header`, the
-/// header fails this test; `Read`, it couldn't be read; `Change`, the two couldn't be opened.
+/// header fails this test; `Read`, it couldn't be read; `Uncopied`, what the log has couldn't be copied; `Change`, the two
+/// couldn't be opened.
 pub(crate) fn open_expected<D: Disk + Drop>(
     alloc: Global,
-    files: Files<D>,
+    files: SeenFiles<D>,
     options: Options,
     expected: Expected,
 ) -> Result<PagedFile<D>, (FilesFault, Files<D>)>
@@ -34,6 +36,10 @@ pub(crate) fn open_expected<D: Disk + Drop>(
     ensures ready { IfOk result IsReady }
     ensures one { IfOk result (λ it. IsHonest it → (old : List ℕ) → StandsFor (seen_image D.Disk files.log files.db) old → bytes_in it ≡ old) }
     ensures expected { IfOk result (λ it. IsHonest it → IsExpected expected (bytes_in it)) }
+
+    // The file alone, without its log, has what the two stood for.
+    ensures alone { IfOk result (λ it. LeavesAlone D.Disk (files_in it) (λ bytes. bytes ≡ bytes_in it)) }
+    ensures crash { IfOk result (λ it. Leaves D.Disk (files_in it) (λ bytes. bytes ≡ bytes_in it)) }
     ensures unchanged { IfErr result (λ failed. (old : List ℕ) → StandsFor (seen_image D.Disk files.log files.db) old → Leaves D.Disk (failed.1.log, failed.1.db) (λ bytes. bytes ≡ old)) }
     ensures refused { IfErr result (λ failed. AreClean D.Disk failed.1.log failed.1.db → (old : List ℕ) → StandsFor (seen_image D.Disk files.log files.db) old → IsCause expected old failed.0) }
     ensures early { IfErr result (λ failed. IsEarly failed.0) }
@@ -47,6 +53,9 @@ pub(crate) fn open_expected<D: Disk + Drop>(
     };
     if let Err(fault) = see_expected(&mut file, expected) {
         return Err((fault, file.close()));
+    }
+    if let Err(error) = file.settle() {
+        return Err((FilesFault::Uncopied(error), file.close()));
     }
     Ok(file)
 }

@@ -1,7 +1,6 @@
 use crate::Operation;
-use exh_commit::Changer;
-use exh_direct::{Blocks, DirectFault};
-use exh_edits::BlockEdit;
+use exh_change::{Blocks, DirectFault};
+use exh_commit::{BlockEdit, Changer};
 use std::alloc::Global;
 
 /// An operation over a page file of version 3, which gets the stamp where it changes.

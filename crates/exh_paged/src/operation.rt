@@ -4,11 +4,11 @@ ghost use Rattle.exh_page.specs.KeyMap.{KeyMap};
 ghost use Rattle.exh_format.specs.Reading.{AreBytes};
 ghost use Rattle.exh_cells.specs.LegalPlaced.{IsLegalPlacedFile};
 ghost use Rattle.exh_cells.specs.PlacedFile.{PlacedFile};
-ghost use Rattle.exh_direct.specs.DirectLaws.{IsOtherFault};
+ghost use Rattle.exh_change.specs.DirectLaws.{IsOtherFault};
 ghost use Rattle.exh_paged.specs.CallChange.{IsMade};
 
-use exh_direct::{Blocks, DirectFault};
-use exh_edits::BlockEdit;
+use exh_change::{Blocks, DirectFault};
+use exh_commit::BlockEdit;
 use std::alloc::Global;
 
 /// What a page file of version 3 may be asked: a call, calls as one change, or a put that has a condition.

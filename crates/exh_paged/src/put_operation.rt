@@ -4,9 +4,8 @@ ghost use Rattle.exh_paged.specs.PutIf.{edits_kept, reply_kept};
 
 use crate::{KeyIs, Operation, PutIf};
 use exh_calls::{Call, Reply};
-use exh_change::{Changed, change};
-use exh_direct::{Blocks, DirectFault};
-use exh_edits::BlockEdit;
+use exh_change::{Blocks, Changed, DirectFault, change};
+use exh_commit::BlockEdit;
 use std::alloc::Global;
 
 // One commit is both: that the key is looked at, and the put. Where the key isn't as it should be, it is a get of it.

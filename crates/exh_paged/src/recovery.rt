@@ -9,20 +9,20 @@ ghost use Rattle.exh_paged.specs.OwnLog.{IsExpected};
 
 use crate::opening::open_expected;
 use crate::{Expected, FilesFault};
-use exh_commit::ChangeFault;
+use exh_commit::SeenFiles;
 use sqlite_disk::{Disk, Files};
 use sqlite_pager::Options;
 use std::alloc::Global;
 
-/// Opens a page file with its log, whatever a crash left of them, sees that it is in the state that is expected, moves what is
+/// Opens a page file with its log, whatever a crash left of them, sees that it is in the state that is expected, copies what is
 /// committed into the file, and gives both back. It takes memory for the blocks that are kept, as many as the options say.
 ///
 /// `OthersLog`: the log is another file's. `NotAsOpened`: the file has another stamp. `Header`: the header fails this test.
-/// `Read`: it couldn't be read. `Change`: the two couldn't be opened, or what is committed stands in the log, as the fault
-/// says.
+/// `Read`: it couldn't be read. `Uncopied`: what is committed couldn't be copied, and stands in the log. `Change`: the two
+/// couldn't be opened.
 pub fn recover_files<D: Disk + Drop>(
     alloc: Global,
-    files: Files<D>,
+    files: SeenFiles<D>,
     options: Options,
     expected: Expected,
 ) -> (Result<(), FilesFault>, Files<D>)
@@ -41,15 +41,8 @@ pub fn recover_files<D: Disk + Drop>(
     ensures expected { OnOk result.0 (AreClean D.Disk result.1.log result.1.db → (old : List ℕ) → StandsFor (seen_image D.Disk files.log files.db) old → IsExpected expected old) }
     ensures refused { IfErr result.0 (λ fault. AreClean D.Disk result.1.log result.1.db → (old : List ℕ) → StandsFor (seen_image D.Disk files.log files.db) old → IsCause expected old fault) }
 {
-    let mut file = match open_expected(alloc, files, options, expected) {
-        Ok(file) => file,
-        Err((fault, files)) => return (Err(fault), files),
-    };
-    if let Err(error) = file.settle() {
-        return (
-            Err(FilesFault::Change(ChangeFault::LeftInLog(error))),
-            file.close(),
-        );
+    match open_expected(alloc, files, options, expected) {
+        Ok(file) => (Ok(()), file.close()),
+        Err((fault, files)) => (Err(fault), files),
     }
-    (Ok(()), file.close())
 }

@@ -1,5 +1,5 @@
 use crate::FilesFault;
-use exh_edits::DifferingFault;
+use exh_commit::DifferingFault;
 use exh_file::SaveFault;
 use thiserror::Error as Fault;
 

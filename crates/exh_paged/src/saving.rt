@@ -1,14 +1,13 @@
 //! Edits of an open file that are saved.
 ghost use Rattle.std.specs.Prelude.{◌≡◌, ℕ, List, IfErr, OnOk};
-ghost use Rattle.exh_edits.specs.BlockEdits.{with_edits};
+ghost use Rattle.exh_commit.specs.BlockEdits.{with_edits};
 ghost use Rattle.exh_commit.specs.FilePages.{Leaves, LeavesAlone};
 ghost use Rattle.exh_commit.specs.PagedFile.{IsHonest, IsOldOrEdited, IsReady, bytes_in, files_in};
 ghost use Rattle.exh_paged.specs.declared.expected.Expected.{Expected};
 ghost use Rattle.exh_paged.specs.FilesFault.{IsCause, IsSaved, IsUnchanged};
 
 use crate::FilesFault;
-use exh_commit::{ChangeFault, PagedFile};
-use exh_edits::BlockEdit;
+use exh_commit::{BlockEdit, ChangeFault, PagedFile};
 use sqlite_disk::Disk;
 
 /// Commits some edits of a file, the first of which is made first, and moves them into the file.

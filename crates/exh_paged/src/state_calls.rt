@@ -10,9 +10,10 @@ ghost use Rattle.exh_paged.specs.FilesFault.{ChangeFails, IsCause, IsOfDisk, IsS
 ghost use Rattle.exh_paged.specs.OwnLog.{HasStamp};
 ghost use Rattle.exh_paged.specs.declared.expected.Expected.TheVariants.{Stamp};
 
-use crate::{Answered, Calls, Expected, FilesFault, answer_files};
+use crate::calls::Calls;
+use crate::{Answered, Expected, FilesFault, answer_files};
 use exh_calls::Call;
-use exh_commit::Truthful;
+use exh_commit::{SeenFiles, Truthful};
 use sqlite_disk::Files;
 use sqlite_pager::Options;
 use std::alloc::Global;
@@ -23,7 +24,7 @@ use std::alloc::Global;
 /// Errors: as of `answer_files`, but for `OthersLog`.
 pub fn answer_over<D: Truthful + Drop>(
     alloc: Global,
-    files: Files<D>,
+    files: SeenFiles<D>,
     options: Options,
     before: u64,
     calls: &[Call],

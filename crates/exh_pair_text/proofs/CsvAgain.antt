@@ -7,8 +7,8 @@ use Rattle.std.proofs.lemmas.Bool.Decides.{nat_tests}
 use Rattle.std.proofs.lemmas.List.Elements.{recursion_from_All}
 use Rattle.hex.specs.Hex.{lower_digits}
 use Rattle.hex.proofs.HexLemmas.{length-encode_with}
-use Rattle.exh_csv.specs.Laws.{FieldsAreRead}
-use Rattle.exh_csv.specs.Rows.{doubled, field_words, is_special, needs_quotes, quoted}
+use Rattle.exh_pair_text.specs.CsvLaws.{FieldsAreRead}
+use Rattle.exh_pair_text.specs.Rows.{doubled, field_words, is_special, needs_quotes, quoted}
 use Rattle.exh_pair_text.specs.declared.field.Field.{Field}
 use Rattle.exh_pair_text.specs.declared.field.Field.TheVariants.{Key, Value}
 use Rattle.exh_pair_text.specs.Lines.{csv_words}

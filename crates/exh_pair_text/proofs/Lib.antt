@@ -10,3 +10,8 @@ pub mod JsonAgain
 pub mod CsvAgain
 pub mod Marks
 pub mod Records
+-- of what is written, which is read again and ends where it is written to
+pub mod CsvReadAgain
+pub mod Whole
+-- of fields as they are read
+pub mod Taking

@@ -12,9 +12,9 @@ use Rattle.std.proofs.lemmas.Option.{cond_some}
 use Rattle.std.proofs.lemmas.Slice.Eq.{bytes_eq-Decides, starts_is}
 use Rattle.hex.specs.Hex.{lower_digits}
 use Rattle.hex.proofs.HexLemmas.{length-encode_with}
-use Rattle.exh_csv.specs.declared.place.Place.TheVariants.{Start, Quoted}
-use Rattle.exh_csv.specs.Laws.{FieldsAreRead, RecordsAreWhole}
-use Rattle.exh_csv.specs.Places.{AreQuoted, place_behind}
+use Rattle.exh_pair_text.specs.declared.place.Place.TheVariants.{Start, Quoted}
+use Rattle.exh_pair_text.specs.CsvLaws.{FieldsAreRead, RecordsAreWhole}
+use Rattle.exh_pair_text.specs.Places.{AreQuoted, place_behind}
 use Rattle.exh_text.specs.ByteWord.{bytes_of_word}
 use Rattle.exh_text.specs.Numbers.{after_prefix, index_spelled, number_up_to}
 use Rattle.exh_text.specs.TextLemmas.{decimal_graphic, number_alone, printed_again}

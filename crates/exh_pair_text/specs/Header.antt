@@ -2,8 +2,8 @@
 use Rattle.std.specs.Prelude.{ℕ, ◌+◌, ◌==◌, Bool, List, [], ◌∷◌, length, count_by, nat_lt, if◌then◌else◌, Option, Some, None, Result, Ok, Err}
 use Rattle.std.specs.Borrow.{Bor}
 use Rattle.std.specs.Str.{bytes_eq}
-use Rattle.exh_csv.specs.Fields.{fields_in}
-use Rattle.exh_csv.specs.declared.wrong_record.WrongRecord.{WrongRecord}
+use Rattle.exh_pair_text.specs.Fields.{fields_in}
+use Rattle.exh_pair_text.specs.declared.wrong_record.WrongRecord.{WrongRecord}
 use Rattle.exh_pair_text.specs.declared.columns.Columns.{Columns}
 use Rattle.exh_pair_text.specs.declared.field.Field.{Field}
 use Rattle.exh_pair_text.specs.declared.field.Field.TheVariants.{Key, Value}

@@ -3,7 +3,7 @@ use Rattle.std.specs.Prelude.{ℕ, List, [], ◌∷◌, ◌++◌, Bool, true, fa
 use Rattle.hex.specs.Hex.{encode_lower}
 use Rattle.exh_text.specs.Contents.{on_line}
 use Rattle.exh_text.specs.Printing.{printed}
-use Rattle.exh_csv.specs.Rows.{row_words}
+use Rattle.exh_pair_text.specs.Rows.{row_words}
 use Rattle.exh_pair_text.specs.declared.pair_format.PairFormat.{PairFormat}
 use Rattle.exh_pair_text.specs.declared.pair_format.PairFormat.TheVariants.{Words, Tsv, Jsonl, Csv}
 use Rattle.exh_pair_text.specs.declared.separated.Separated.{Separated}

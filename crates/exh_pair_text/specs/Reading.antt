@@ -18,8 +18,8 @@ use Rattle.exh_pair_text.specs.declared.separated.Separated.{Separated}
 use Rattle.exh_pair_text.specs.declared.separated.Separated.TheVariants as apart
 use Rattle.exh_pair_text.specs.declared.wrong_line.WrongLine.{WrongLine}
 use Rattle.exh_pair_text.specs.declared.wrong_line.WrongLine.TheVariants.{NoValue, EmptyKey, LongKey, LongValue, NoWord, NoDigits, NoEscape, SecondTab, NoJson, NoField, NoString, NoHex, TwoFields, NoRecord, Fields}
-use Rattle.exh_csv.specs.Fields.{fields_in}
-use Rattle.exh_csv.specs.declared.wrong_record.WrongRecord.{WrongRecord}
+use Rattle.exh_pair_text.specs.Fields.{fields_in}
+use Rattle.exh_pair_text.specs.declared.wrong_record.WrongRecord.{WrongRecord}
 use Rattle.exh_pair_text.specs.Bytes.{first_byte, return}
 use Rattle.exh_pair_text.specs.Formats.{format_named, separator, tab}
 use Rattle.exh_pair_text.specs.Lines.{end_words, json_end_words, json_opening, opening_words}

@@ -1,8 +1,8 @@
 -- Where the text of a pair ends: at a newline, or, of comma-separated fields, at one that stands in no quotes.
 use Rattle.std.specs.Prelude.{◌≢◌, ℕ, List}
-use Rattle.exh_csv.specs.declared.place.Place.{Place}
-use Rattle.exh_csv.specs.declared.place.Place.TheVariants.{Start, Quoted}
-use Rattle.exh_csv.specs.Places.{AreQuoted, place_after, place_behind}
+use Rattle.exh_pair_text.specs.declared.place.Place.{Place}
+use Rattle.exh_pair_text.specs.declared.place.Place.TheVariants.{Start, Quoted}
+use Rattle.exh_pair_text.specs.Places.{AreQuoted, place_after, place_behind}
 use Rattle.exh_pair_text.specs.declared.pair_format.PairFormat.{PairFormat}
 use Rattle.exh_pair_text.specs.declared.pair_format.PairFormat.TheVariants.{Words, Tsv, Jsonl, Csv}
 

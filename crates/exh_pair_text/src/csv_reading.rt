@@ -4,8 +4,7 @@ ghost use Rattle.exh_pair_text.specs.Reading.{csv_bytes, csv_pair, fields_pair, 
 ghost use Rattle.exh_pair_text.specs.Spelled.{all_spelled};
 
 use crate::spelled::Spelled;
-use crate::{Columns, Field, WrongLine};
-use exh_csv::fields_of;
+use crate::{Columns, Field, WrongLine, fields_of};
 use exh_page::{Key, Value};
 use std::alloc::{AllocError, Global};
 

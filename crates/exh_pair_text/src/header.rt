@@ -3,8 +3,7 @@ ghost use Rattle.std.specs.Prelude.{◌≡◌, IfOk, count_by, map, nat_lt};
 ghost use Rattle.exh_pair_text.specs.Header.{both_columns, column_named, columns_by, columns_in, is_named, named_columns, names_of, place_from};
 
 use crate::reading::own_text;
-use crate::{Columns, Field, FieldNames, PairFormat, WrongHeader};
-use exh_csv::fields_of;
+use crate::{Columns, Field, FieldNames, PairFormat, WrongHeader, fields_of};
 use std::alloc::{AllocError, Global};
 
 /// The columns of the records behind a header, which is a line without its newline: those of these names, or both of two, where

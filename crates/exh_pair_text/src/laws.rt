@@ -1,7 +1,7 @@
 //! What holds of all pairs. Each function changes nothing.
 ghost use Rattle.exh_pair_text.specs.Laws.{PairsAreOneLine, PairsAreRead};
 
-use exh_csv::{fields_are_read, records_are_whole};
+use crate::{fields_are_read, records_are_whole};
 
 /// What is written of a key of 1 to 64 bytes and a value of at most 128 reads as that pair, in each format, and in
 /// hexadecimal too.

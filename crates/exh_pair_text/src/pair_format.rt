@@ -3,7 +3,7 @@ ghost use Rattle.exh_pair_text.specs.Formats.{format_name, format_named};
 ghost use Rattle.exh_pair_text.specs.Lines.{end_before, end_behind, opening_text};
 ghost use Rattle.exh_pair_text.specs.Records.{place_by};
 
-use exh_csv::Place;
+use crate::Place;
 
 /// How a text has its pairs.
 #[derive(Clone, Copy, Debug, PartialEq, Eq)]

@@ -1,16 +1,15 @@
 //! How pairs are written, one a line, and what an export begins and ends with.
 ghost use Rattle.std.specs.Prelude.{◌≡◌, ◌++◌, OnOk, decimal, flat_map};
 ghost use Rattle.exh_text.specs.Printing.{Keeps};
-ghost use Rattle.exh_csv.specs.Rows.{field_words};
+ghost use Rattle.exh_pair_text.specs.Rows.{field_words};
 ghost use Rattle.exh_pair_text.specs.Bytes.{byte_text};
 ghost use Rattle.exh_pair_text.specs.Json.{string_by};
 ghost use Rattle.exh_pair_text.specs.Lines.{csv_words, end_line, field_text, opening_line, pair_line, separated_words};
 
-use crate::PairFormat;
 use crate::byte_text::{push_byte, push_digits};
 use crate::json_object::push_object;
 use crate::separated::Separated;
-use exh_csv::push_field as push_csv_field;
+use crate::{PairFormat, push_field as push_csv_field};
 use exh_text::{push_number, push_text, push_value};
 use std::alloc::AllocError;
 

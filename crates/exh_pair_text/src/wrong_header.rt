@@ -1,5 +1,4 @@
-use crate::Field;
-use exh_csv::WrongRecord;
+use crate::{Field, WrongRecord};
 use thiserror::Error;
 
 /// Why a header gives no columns. Its text is a sentence without a full stop.

@@ -1,5 +1,4 @@
-use crate::Field;
-use exh_csv::WrongRecord;
+use crate::{Field, WrongRecord};
 use thiserror::Error;
 
 /// Why a line is no pair. Its text is a sentence without a full stop. Bytes of a line are counted from 1 on.

@@ -7,7 +7,7 @@ use Rattle.std.proofs.lemmas.Bool.Decides.{eqb_tells}
 use Rattle.std.proofs.lemmas.List.{length-drop, take_all}
 use Rattle.std.proofs.lemmas.List.Concat.{flat_map-append}
 use Rattle.exh_page.specs.declared.page.Page.{Page}
-use Rattle.exh_format.specs.PageFile.{page_block}
+use Rattle.exh_cells.specs.PageFile.{page_block}
 use Rattle.exh_cells.specs.declared.cell.Cell.{Cell}
 use Rattle.exh_cells.specs.Places.{groups_of}
 use Rattle.exh_cells.specs.PlacedFile.{PlacedFile, group_bytes, placed_bytes, stamped_block, walk_block}

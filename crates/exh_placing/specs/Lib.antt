@@ -1,3 +1,9 @@
+pub use Rattle.exh_cells.specs.CellLaws
+pub use Rattle.exh_cells.specs.GroupSizes
+pub use Rattle.exh_cells.specs.LegalPlaced
+pub use Rattle.exh_cells.specs.PlacedFile
+pub use Rattle.exh_cells.specs.Places
+pub use Rattle.exh_cells.specs.StampedHeader
 pub mod Placed
 pub mod Making
 pub mod PlacingLaws

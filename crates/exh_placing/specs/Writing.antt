@@ -3,7 +3,7 @@ use Rattle.std.specs.Prelude.{◌≡◌, ℕ, ◌+◌, ◌≤◌, ◌%◌, nat_e
 use Rattle.std.specs.List.{flat_map, range_with_len}
 use Rattle.std.specs.Option.{option_map_or}
 use Rattle.exh_page.specs.declared.page.Page.{Page}
-use Rattle.exh_format.specs.PageFile.{page_block}
+use Rattle.exh_cells.specs.PageFile.{page_block}
 use Rattle.exh_cells.specs.declared.cell.Cell.{Cell}
 use Rattle.exh_cells.specs.declared.places.TheConstants.{GROUP_PAGES}
 use Rattle.exh_cells.specs.PlacedFile.{PlacedFile, placed_bytes, stamped_block, walk_block}

@@ -2,6 +2,7 @@
 #![tactic(auto)]
 
 pub use cells::cells_of_tables;
+pub use exh_cells::{Cell, GROUP_PAGES, PLACED_NUMBER, STAMPED_LEN, StampedHeader};
 pub use laws::{
     files_of_wards_are_placed, legal_wards_give_files, legal_wards_have_places, orders_give_pages,
     places_make_files, told_tables_have_places,
@@ -17,6 +18,5 @@ mod order;
 mod page_at;
 mod place_index;
 mod slots;
-mod stamped_block;
 mod table_list;
 mod writing;

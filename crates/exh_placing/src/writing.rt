@@ -5,7 +5,6 @@ ghost use Rattle.exh_cells.specs.declared.places.TheConstants.{GROUP_PAGES};
 ghost use Rattle.exh_cells.specs.StampedHeader.{IsStampedHeader};
 ghost use Rattle.exh_placing.specs.Writing.{opening};
 
-use crate::stamped_block::stamped_block as block_of;
 use exh_cells::{Cell, GROUP_PAGES, StampedHeader, encode_cells};
 use exh_codec::BLOCK_LEN;
 use exh_stream::{Output, WriteFault};
@@ -24,7 +23,7 @@ pub fn write_header<W: Write>(
     ensures err { OnErr result (TakesBeginning W.contents output.old output.new (stamped_block header.now)) }
     ensures failed { IsErr result ↔ IsTrue (writer_failed output.new) }
 {
-    output.push(&block_of(header))
+    output.push(&header.to_block())
 }
 
 /// Writes what stands at a place of a file with these cells: where a group begins its walk block, and then the page's

@@ -11,3 +11,4 @@ pub mod PrefixByteLemmas
 pub mod PrefixLemmas
 pub mod LowLemmas
 pub mod LeadingLemmas
+pub mod PrefixLimits

@@ -2,7 +2,7 @@
 use Rattle.std.specs.Prelude.{ℕ, List, ◌∷◌, ◌++◌, map, flat_map, decimal, codes, unwrap_or}
 use Rattle.exh_keyer.specs.Pseudokey.{keyer_word}
 use Rattle.exh_keyer.specs.declared.any_keyer.AnyKeyer.{AnyKeyer}
-use Rattle.exh_settings.specs.declared.file_settings.FileSettings.{FileSettings}
+use Rattle.exh_page.specs.declared.file_settings.FileSettings.{FileSettings}
 use Rattle.exh_page.specs.Page.{records_of}
 use Rattle.exh_page.specs.declared.page.Page.{Page}
 use Rattle.exh_page.specs.declared.record.Record.{Record}

@@ -9,9 +9,8 @@ ghost use Rattle.exh_report.specs.PairsText.{first_words, record_words, records_
 use crate::counts::Counts;
 use exh_format::Header;
 use exh_keyer::AnyKeyer;
-use exh_page::{Page, Record};
+use exh_page::{FileSettings, Page, Record};
 use exh_prefix::PageNo;
-use exh_settings::FileSettings;
 use exh_text::{push_forward_page, push_live_page, push_number, push_text, push_value};
 use std::alloc::AllocError;
 

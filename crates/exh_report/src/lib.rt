@@ -3,6 +3,7 @@
 #![tactic(auto)]
 
 pub use exh_model::audit;
+pub use exh_versions::{FileForm, PlacedForm, legal_bytes_are_files};
 pub use other_settings::OtherSettings;
 pub use refusal_line::{push_block, push_refusal};
 pub use report::{check_onto, dump_onto, pairs_onto};

@@ -2,7 +2,7 @@ ghost use Rattle.std.specs.Prelude.{◌≡◌};
 ghost use Rattle.exh_report.specs.PairsText.{settings_over};
 
 use exh_keyer::AnyKeyer;
-use exh_settings::FileSettings;
+use exh_page::FileSettings;
 
 /// Settings that a text of pairs begins with in place of the file's: a cap of 1 to 16, ward bits of 0 to 4 and a keyer,
 /// each where it is given.

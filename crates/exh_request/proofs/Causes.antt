@@ -1,9 +1,9 @@
 -- Steps one behind the other, of which the first that is wrong decides.
 use Rattle.std.proofs.Common.{◌≡◌, Result, Ok, ap, subst, sym}
-use Rattle.exh_words.specs.declared.wrong_request.WrongCause.{WrongCause}
-use Rattle.exh_words.specs.declared.cause_or_memory.CauseOrMemory.{CauseOrMemory}
-use Rattle.exh_words.specs.declared.cause_or_memory.CauseOrMemory.TheVariants.{Wrong, Memory}
-use Rattle.exh_words.specs.Causes.{IsCauseOf, ◌>>=◌}
+use Rattle.exh_request.specs.declared.wrong_request.WrongCause.{WrongCause}
+use Rattle.exh_request.specs.declared.cause_or_memory.CauseOrMemory.{CauseOrMemory}
+use Rattle.exh_request.specs.declared.cause_or_memory.CauseOrMemory.TheVariants.{Wrong, Memory}
+use Rattle.exh_request.specs.Causes.{IsCauseOf, ◌>>=◌}
 
 pub then_is : {A B : Type 0} (asked : Result A WrongCause) (next : A → Result B WrongCause) (found : A) → asked ≡ Ok found → (asked >>= next) ≡ next found
 then_is asked next found is = ap (λ asked. asked >>= next) is

@@ -1,9 +1,9 @@
 -- Keys that stand before others.
 use Rattle.std.proofs.Common.{◌≡◌, ℕ, List, [], ◌∷◌, ◌++◌, refl, ap, sym, append_assoc, Result, Ok, Err}
-use Rattle.exh_words.specs.declared.wrong_request.WrongCause.{WrongCause}
-use Rattle.exh_words.specs.declared.cause_or_memory.CauseOrMemory.{CauseOrMemory}
-use Rattle.exh_words.specs.declared.cause_or_memory.CauseOrMemory.TheVariants.{Wrong, Memory}
-use Rattle.exh_words.specs.Causes.{IsCauseOf, ◌>>=◌}
+use Rattle.exh_request.specs.declared.wrong_request.WrongCause.{WrongCause}
+use Rattle.exh_request.specs.declared.cause_or_memory.CauseOrMemory.{CauseOrMemory}
+use Rattle.exh_request.specs.declared.cause_or_memory.CauseOrMemory.TheVariants.{Wrong, Memory}
+use Rattle.exh_request.specs.Causes.{IsCauseOf, ◌>>=◌}
 
 abbrev pub behind_keys : List (List ℕ) → Result (List (List ℕ)) WrongCause → Result (List (List ℕ)) WrongCause
 behind_keys keys (Ok others) = Ok (keys ++ others)

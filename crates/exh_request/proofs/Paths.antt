@@ -2,8 +2,8 @@
 use Rattle.std.proofs.Common.{◌≡◌, ◌∙◌, ℕ, Bool, true, false, List, Ok, Err, ap, cond, refl, sym}
 use Rattle.std.specs.Str.{IsUtf8, is_utf8}
 use Rattle.std.proofs.lemmas.Str.{IsUtf8-from_is_utf8, is_utf8-from_IsUtf8}
-use Rattle.exh_words.specs.declared.place.Place.{Place}
-use Rattle.exh_words.specs.declared.wrong_request.WrongCause.TheVariants.{PathNotText}
+use Rattle.exh_request.specs.declared.place.Place.{Place}
+use Rattle.exh_request.specs.declared.wrong_request.WrongCause.TheVariants.{PathNotText}
 use Rattle.exh_request.specs.Request.{path_asked}
 
 pub text_path : (place : Place) (word path : List ℕ) → path ≡ word → IsUtf8 word → path_asked place word ≡ Ok path

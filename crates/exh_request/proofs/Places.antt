@@ -1,10 +1,10 @@
 -- How many words stand at places.
 use Rattle.std.proofs.Common.{◌≡◌, ◌<◌, ◌≤◌, List, [], ◌∷◌, length, map, Err, refl, arith}
-use Rattle.exh_words.specs.declared.line.Placed.{Placed}
+use Rattle.exh_request.specs.declared.line.Placed.{Placed}
 use Rattle.exh_request.specs.declared.options.Options.{Options}
-use Rattle.exh_words.specs.declared.place.Place.TheVariants as at
-use Rattle.exh_words.specs.declared.wrong_request.WrongCause.TheVariants.{Missing}
-use Rattle.exh_words.specs.Line.{placed_word}
+use Rattle.exh_request.specs.declared.place.Place.TheVariants as at
+use Rattle.exh_request.specs.declared.wrong_request.WrongCause.TheVariants.{Missing}
+use Rattle.exh_request.specs.Line.{placed_word}
 use Rattle.exh_request.specs.Request.{put_asked}
 
 pub one_place : (options : Options) (places : List Placed) → 1 ≤ length places → length places < 2 → put_asked options (map placed_word places) ≡ Err (Missing at.Value)

@@ -4,11 +4,11 @@ use Rattle.hex.specs.Hex.{decode_of}
 use Rattle.hex.specs.declared.error.FromHexError.{FromHexError}
 use Rattle.exh_page.specs.declared.key.TheConstants.{KEY_LIMIT}
 use Rattle.exh_page.specs.declared.value.TheConstants.{VALUE_LIMIT}
-use Rattle.exh_words.specs.declared.place.Place.{Place}
-use Rattle.exh_words.specs.declared.place.Place.TheVariants as at
-use Rattle.exh_words.specs.declared.wrong_request.WrongCause.{WrongCause}
-use Rattle.exh_words.specs.declared.wrong_request.WrongCause.TheVariants.{KeyEmpty, KeyTooLong, NotHex, ValueTooLong}
-use Rattle.exh_words.specs.Causes.{◌>>=◌}
+use Rattle.exh_request.specs.declared.place.Place.{Place}
+use Rattle.exh_request.specs.declared.place.Place.TheVariants as at
+use Rattle.exh_request.specs.declared.wrong_request.WrongCause.{WrongCause}
+use Rattle.exh_request.specs.declared.wrong_request.WrongCause.TheVariants.{KeyEmpty, KeyTooLong, NotHex, ValueTooLong}
+use Rattle.exh_request.specs.Causes.{◌>>=◌}
 
 -- the bytes that hexadecimal digits spell, two a byte, of either case
 abbrev pub digits_read : Place → Result (List ℕ) FromHexError → Result (List ℕ) WrongCause

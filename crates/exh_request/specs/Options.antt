@@ -5,24 +5,24 @@ use Rattle.exh_keyer.specs.declared.any_keyer.AnyKeyer.{AnyKeyer}
 use Rattle.exh_keyer.specs.declared.any_keyer.AnyKeyer.TheVariants.{Sha}
 use Rattle.exh_page.specs.declared.page.TheConstants.{CAP_LIMIT}
 use Rattle.exh_prefix.specs.declared.prefix.TheConstants.{WARD_BITS_LIMIT}
-use Rattle.exh_settings.specs.Keyers.{keyer_named}
-use Rattle.exh_settings.specs.declared.file_settings.FileSettings.{FileSettings}
-use Rattle.exh_text.specs.Numbers.{number_spelled}
+use Rattle.exh_page.specs.Keyers.{keyer_named}
+use Rattle.exh_page.specs.declared.file_settings.FileSettings.{FileSettings}
+use Rattle.exh_pair_text.specs.Numbers.{number_spelled}
 use Rattle.exh_pair_text.specs.Formats.{format_named}
 use Rattle.exh_pair_text.specs.declared.pair_format.PairFormat.{PairFormat}
 use Rattle.exh_pair_text.specs.declared.pair_format.PairFormat.TheVariants.{Words}
-use Rattle.exh_words.specs.declared.command_option.CommandOption.{CommandOption}
-use Rattle.exh_words.specs.declared.command_option.CommandOption.TheVariants.{Atomic, Bare, Cap, Create, Format, From, Header, Hex, Json, Keyer, New, Raw, Replace, Wait, Wards}
+use Rattle.exh_request.specs.declared.command_option.CommandOption.{CommandOption}
+use Rattle.exh_request.specs.declared.command_option.CommandOption.TheVariants.{Atomic, Bare, Cap, Create, Format, From, Header, Hex, Json, Keyer, New, Raw, Replace, Wait, Wards}
 use Rattle.exh_request.specs.declared.given_settings.GivenSettings.{GivenSettings}
 use Rattle.exh_request.specs.declared.options.Options.{Options}
 use Rattle.exh_request.specs.declared.options.TheConstants.{USUAL_WAIT, WAIT_LIMIT}
 use Rattle.exh_request.specs.declared.put_when.PutWhen.{PutWhen}
 use Rattle.exh_request.specs.declared.put_when.PutWhen.TheVariants as put
-use Rattle.exh_words.specs.declared.wrong_request.WrongCause.{WrongCause}
-use Rattle.exh_words.specs.declared.wrong_request.WrongCause.TheVariants.{BadValue, NewAndReplace, Twice}
-use Rattle.exh_words.specs.Causes.{◌>>=◌}
-use Rattle.exh_words.specs.Line.{UsedOption}
-use Rattle.exh_words.specs.Uses.{is_used, repeated, value_given}
+use Rattle.exh_request.specs.declared.wrong_request.WrongCause.{WrongCause}
+use Rattle.exh_request.specs.declared.wrong_request.WrongCause.TheVariants.{BadValue, NewAndReplace, Twice}
+use Rattle.exh_request.specs.Causes.{◌>>=◌}
+use Rattle.exh_request.specs.Line.{UsedOption}
+use Rattle.exh_request.specs.Uses.{is_used, repeated, value_given}
 
 -- ---- what one says, or what holds where it isn't used
 

@@ -2,13 +2,13 @@
 use Rattle.std.specs.Prelude.{◌≡◌, ◌&&◌, ◌||◌, ⊤, ℕ, Bool, true, false, not, List, [], ◌∷◌, length, nat_lt, Option, Some, None, is_some, option_map, Result, Ok, Err, codes, if◌then◌else◌}
 use Rattle.std.specs.Str.{bytes_eq, is_utf8}
 use Rattle.exh_keyer.specs.declared.any_keyer.AnyKeyer.{AnyKeyer}
-use Rattle.exh_settings.specs.declared.file_settings.FileSettings.{FileSettings}
+use Rattle.exh_page.specs.declared.file_settings.FileSettings.{FileSettings}
 use Rattle.exh_request.specs.declared.action.Action.{Action}
 use Rattle.exh_request.specs.declared.action.Action.TheVariants as actions
-use Rattle.exh_words.specs.declared.everyday_command.EverydayCommand.{EverydayCommand}
-use Rattle.exh_words.specs.declared.everyday_command.EverydayCommand.TheVariants.{Create, Get, Put, Del, Swap, Backup, Import, Export, Compact, Stats, Salvage}
-use Rattle.exh_words.specs.declared.command_option.CommandOption.{CommandOption}
-use Rattle.exh_words.specs.declared.command_option.CommandOption.TheVariants as option
+use Rattle.exh_request.specs.declared.everyday_command.EverydayCommand.{EverydayCommand}
+use Rattle.exh_request.specs.declared.everyday_command.EverydayCommand.TheVariants.{Create, Get, Put, Del, Swap, Backup, Import, Export, Compact, Stats, Salvage}
+use Rattle.exh_request.specs.declared.command_option.CommandOption.{CommandOption}
+use Rattle.exh_request.specs.declared.command_option.CommandOption.TheVariants as option
 use Rattle.exh_request.specs.declared.form.Form.{Form}
 use Rattle.exh_request.specs.declared.given_settings.GivenSettings.{GivenSettings}
 use Rattle.exh_request.specs.declared.import_words.ImportWords.{ImportWords}
@@ -20,20 +20,20 @@ use Rattle.exh_request.specs.declared.keys.Keys.TheVariants as keys
 use Rattle.exh_request.specs.declared.new_value.NewValue.{NewValue}
 use Rattle.exh_request.specs.declared.new_value.NewValue.TheVariants as values
 use Rattle.exh_request.specs.declared.options.Options.{Options}
-use Rattle.exh_words.specs.declared.place.Place.{Place}
-use Rattle.exh_words.specs.declared.place.Place.TheVariants as at
+use Rattle.exh_request.specs.declared.place.Place.{Place}
+use Rattle.exh_request.specs.declared.place.Place.TheVariants as at
 use Rattle.exh_request.specs.declared.put_when.PutWhen.{PutWhen}
 use Rattle.exh_request.specs.declared.request.Request.{Request}
 use Rattle.exh_request.specs.declared.fault.RequestFault.{RequestFault}
 use Rattle.exh_request.specs.declared.fault.RequestFault.TheVariants as faults
-use Rattle.exh_words.specs.declared.wrong_request.WrongCause.{WrongCause}
-use Rattle.exh_words.specs.declared.wrong_request.WrongCause.TheVariants.{BadValue, HeaderOfNone, Missing, NamesOfNone, OneName, PathNotText, RawKeys, SettingsOfNone, TooMany}
+use Rattle.exh_request.specs.declared.wrong_request.WrongCause.{WrongCause}
+use Rattle.exh_request.specs.declared.wrong_request.WrongCause.TheVariants.{BadValue, HeaderOfNone, Missing, NamesOfNone, OneName, PathNotText, RawKeys, SettingsOfNone, TooMany}
 use Rattle.exh_request.specs.Arguments.{key_asked, value_asked}
-use Rattle.exh_words.specs.Causes.{◌>>=◌}
-use Rattle.exh_words.specs.Commands.{command_named}
-use Rattle.exh_words.specs.Line.{PlacedWord, UsedOption, line_asked}
+use Rattle.exh_request.specs.Causes.{◌>>=◌}
+use Rattle.exh_request.specs.Commands.{command_named}
+use Rattle.exh_request.specs.Line.{PlacedWord, UsedOption, line_asked}
 use Rattle.exh_request.specs.Options.{is_given, new_settings, options_asked}
-use Rattle.exh_words.specs.Uses.{value_given}
+use Rattle.exh_request.specs.Uses.{value_given}
 
 -- ---- what is asked for, with the texts of its paths
 

@@ -2,9 +2,8 @@
 
 use crate::{GivenSettings, GivenTexts, ImportWords, Keys, NewValue, PutWhen};
 use exh_keyer::AnyKeyer;
-use exh_page::{Key, Value};
+use exh_page::{FileSettings, Key, Value};
 use exh_pair_text::PairFormat;
-use exh_settings::FileSettings;
 
 /// What a request does with the page file of its path.
 #[derive(Drop)]

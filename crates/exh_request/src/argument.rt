@@ -1,11 +1,11 @@
 //! The key, the value and the path that a word is.
 ghost use Rattle.std.specs.Prelude.{◌≡◌, true, IfOk, IfErr};
 ghost use Rattle.exh_request.specs.Arguments.{bytes_asked, key_asked, key_ranged, value_asked, value_ranged};
-ghost use Rattle.exh_words.specs.Causes.{IsCauseOf};
+ghost use Rattle.exh_request.specs.Causes.{IsCauseOf};
 ghost use Rattle.exh_request.specs.Request.{path_asked};
 
+use crate::{CauseOrMemory, Place, WrongCause};
 use exh_page::{Key, Value};
-use exh_words::{CauseOrMemory, Place, WrongCause};
 use hex::FromHexError;
 use std::alloc::Global;
 

@@ -1,18 +1,17 @@
 //! The request that words ask for.
 ghost use Rattle.std.specs.Prelude.{◌≡◌, is_some, map, option_map, IfOk, IfErr};
-ghost use Rattle.exh_words.specs.Causes.{IsCauseOf};
-ghost use Rattle.exh_words.specs.Line.{placed_word, used_option};
+ghost use Rattle.exh_request.specs.Causes.{IsCauseOf};
+ghost use Rattle.exh_request.specs.Line.{placed_word, used_option};
 ghost use Rattle.exh_request.specs.Request.{IsAnswered, action_asked, action_text, ask_for_help, backup_asked, called, compact_asked, create_asked, export_asked, help_of, import_asked, import_of, is_help, keys_asked, keys_text, names_wrong, new_value_asked, put_asked, put_of, request_behind, request_text, salvage_asked, several_asked, stats_asked, swap_asked, swap_of, text_asked, texts_asked, texts_text, words_of};
 
 use crate::argument::{key_of, path_of, value_of};
 use crate::options::Options;
-use crate::{Action, GivenTexts, ImportWords, Keys, NewValue, Request, RequestFault};
+use crate::{
+    Action, CauseOrMemory, CommandOption, EverydayCommand, GivenTexts, ImportWords, Keys, Line,
+    NewValue, Place, Placed, Request, RequestFault, WrongCause, WrongRequest, is_word,
+};
 use exh_page::Key;
 use exh_pair_text::PairFormat;
-use exh_words::{
-    CauseOrMemory, CommandOption, EverydayCommand, Line, Place, Placed, WrongCause, WrongRequest,
-    is_word,
-};
 use std::alloc::Global;
 
 /// The request that the words of a command line ask for, of which the first is the program's name: `None` where they call no

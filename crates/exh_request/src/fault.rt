@@ -1,6 +1,6 @@
 //! Why words give no request.
 
-use exh_words::WrongRequest;
+use crate::WrongRequest;
 use std::alloc::AllocError;
 use thiserror::Error;
 

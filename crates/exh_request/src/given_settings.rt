@@ -3,7 +3,7 @@ ghost use Rattle.std.specs.Prelude.{◌≡◌};
 ghost use Rattle.exh_request.specs.Options.{is_given, new_settings};
 
 use exh_keyer::AnyKeyer;
-use exh_settings::FileSettings;
+use exh_page::FileSettings;
 
 /// The settings of a page file that options name; `None` of those that they don't.
 #[derive(Clone, Copy)]

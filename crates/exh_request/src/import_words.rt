@@ -1,8 +1,8 @@
 //! How pairs are imported.
 
 use exh_keyer::AnyKeyer;
+use exh_page::FileSettings;
 use exh_pair_text::PairFormat;
-use exh_settings::FileSettings;
 
 /// How the pairs of standard input are put into a page file.
 #[derive(Clone, Copy)]

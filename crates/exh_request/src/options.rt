@@ -1,19 +1,16 @@
 //! What the options of a command say.
 
 ghost use Rattle.std.specs.Prelude.{◌≡◌, ◌≤◌, map, IfOk, IfSome};
-ghost use Rattle.exh_words.specs.Line.{used_option};
+ghost use Rattle.exh_request.specs.Line.{used_option};
 ghost use Rattle.exh_request.specs.Options.{format_of_word, from_word, given_asked, keyer_of_word, number_asked, number_given, options_asked, when_by};
-ghost use Rattle.exh_words.specs.Uses.{is_used, value_given};
-ghost use Rattle.exh_words.specs.declared.command_option.CommandOption.TheVariants.{Format, From, Keyer, New, Replace};
+ghost use Rattle.exh_request.specs.Uses.{is_used, value_given};
+ghost use Rattle.exh_request.specs.declared.command_option.CommandOption.TheVariants.{Format, From, Keyer, New, Replace};
 
-use crate::{Form, GivenSettings, PutWhen};
+use crate::{CommandOption, Form, GivenSettings, Line, PutWhen, WrongCause};
 use exh_keyer::AnyKeyer;
-use exh_page::CAP_LIMIT;
-use exh_pair_text::PairFormat;
+use exh_page::{CAP_LIMIT, keyer_named};
+use exh_pair_text::{PairFormat, parse_u32};
 use exh_prefix::WARD_BITS_LIMIT;
-use exh_settings::keyer_named;
-use exh_text::parse_u32;
-use exh_words::{CommandOption, Line, WrongCause};
 
 /// How many seconds another process is waited for, where no option says it.
 pub const USUAL_WAIT: u32 = 5;

@@ -1,6 +1,6 @@
 //! The program's own words.
 
-use exh_words::EverydayCommand;
+use crate::EverydayCommand;
 use std::alloc::AllocError;
 use std::env::{Env, FillError};
 

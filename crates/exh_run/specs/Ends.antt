@@ -1,10 +1,10 @@
 -- How the run of a command ends: the statuses of refusals, and what is printed.
 use Rattle.std.specs.Prelude.{◌≡◌, ◌⊎◌, ℕ, Bool, List, Option, Result, Ok, Err}
-use Rattle.exh_map.specs.declared.store_error.StoreError.{StoreError}
-use Rattle.exh_map.specs.declared.store_error.StoreError.TheVariants as fault
-use Rattle.exh_answer.specs.LastLine.{TellsLine}
-use Rattle.exh_answer.specs.declared.status.Status.{Status}
-use Rattle.exh_answer.specs.declared.status.Status.TheVariants.{Done, Missing, Refused, Busy}
+use Rattle.exhash.specs.declared.StoreError.{StoreError}
+use Rattle.exhash.specs.declared.StoreError.TheVariants as fault
+use Rattle.exh_job.specs.LastLine.{TellsLine}
+use Rattle.exh_job.specs.declared.status.Status.{Status}
+use Rattle.exh_job.specs.declared.status.Status.TheVariants.{Done, Missing, Refused, Busy}
 
 -- ---- statuses of refusals
 

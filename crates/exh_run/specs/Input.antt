@@ -2,8 +2,8 @@
 use Rattle.std.specs.Prelude.{◌≡◌, ⊤, ◌⊎◌, ◌+◌, ◌/◌, ℕ, Bool, true, false, nat_le, nat_lt, List, [], ◌∷◌, ◌++◌, length, map, Option, Some, None, Result, Ok, Err, if◌then◌else◌}
 use Rattle.hex.specs.Hex.{decode_of}
 use Rattle.hex.specs.declared.error.FromHexError.{FromHexError}
-use Rattle.exh_answer.specs.declared.status.Status.{Status}
-use Rattle.exh_answer.specs.declared.status.Status.TheVariants.{Refused}
+use Rattle.exh_job.specs.declared.status.Status.{Status}
+use Rattle.exh_job.specs.declared.status.Status.TheVariants.{Refused}
 use Rattle.exh_page.specs.declared.value.TheConstants.{VALUE_LIMIT}
 use Rattle.exh_text.specs.ByteWord.{bytes_of_word, key_in_range}
 use Rattle.exh_text.specs.TextLines.{newline, parts_at}

@@ -1,8 +1,8 @@
 -- Texts that a command ends with.
 use Rattle.std.proofs.Common.{◌≡◌, ℕ, Bool, List, Option, Result, Ok, Err, inl, inr, subst}
 use Rattle.std.specs.Prelude.{IfOk}
-use Rattle.exh_answer.specs.LastLine.{TellsLine}
-use Rattle.exh_answer.specs.declared.status.Status.{Status}
+use Rattle.exh_job.specs.LastLine.{TellsLine}
+use Rattle.exh_job.specs.declared.status.Status.{Status}
 use Rattle.exh_run.specs.Ends.{Ends, EndsText, Says}
 
 pub said : {V E : Type 0} (bytes : V → List ℕ) (old new : Option (List ℕ)) (failed : Bool) (text : Result V E) (status result : Status) (wanted : List ℕ)

@@ -1,7 +1,7 @@
 -- What the save of a store comes to, by what its close answers.
 use Rattle.std.specs.Prelude.{◌≡◌, Option, Result, Ok, Err, IfErr}
-use Rattle.exh_map.specs.declared.store_error.StoreError.{StoreError}
-use Rattle.exh_map.specs.declared.store_error.StoreError.TheVariants.{ReadOnly, Unsynchronized}
+use Rattle.exhash.specs.declared.StoreError.{StoreError}
+use Rattle.exhash.specs.declared.StoreError.TheVariants.{ReadOnly, Unsynchronized}
 use Rattle.exhash.specs.Store.{IsOfCommit, IsReadOnly}
 
 -- it is saved where only the folder isn't synchronized

@@ -6,13 +6,12 @@ ghost use Rattle.exh_run.specs.Input.{AreKeys, AreKeysOf, HasNoKeys, IsBeforeNew
 
 use crate::Run;
 use crate::wrong_input::WrongInput;
-use exh_answer::Status;
-use exh_notes::ReasonReader;
+use exh_job::Status;
 use exh_page::{KEY_LIMIT, Key, VALUE_LIMIT, Value};
 use exh_request::Form;
 use exh_stream::{InputFault, Source};
-use exh_system::{INPUT, Reason};
-use exh_text::{Parts, SCRIPT_LIMIT, parse_key};
+use exh_text::{Parts, ReasonReader, SCRIPT_LIMIT, parse_key};
+use exhash::{INPUT, Reason};
 use std::alloc::Global;
 use std::cell::Cell;
 use std::io;

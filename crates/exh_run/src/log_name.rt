@@ -1,5 +1,5 @@
 use crate::Run;
-use exh_disk::{file_name_of, folder_of};
+use exh_saving::{file_name_of, folder_of};
 use std::fs;
 
 /// Whether a path is where the page file's log stands, or the journal that the pager looks for.

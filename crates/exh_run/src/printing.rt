@@ -1,12 +1,12 @@
 //! What a command prints, and what is said where it isn't printed.
 ghost use Rattle.std.specs.Prelude.{◌≡◌, [], IsFalse};
 ghost use Rattle.exh_stream.specs.Output.{SameWriter, held, pending, writer_failed};
-ghost use Rattle.exh_answer.specs.LastLine.{TellsLine};
+ghost use Rattle.exh_job.specs.LastLine.{TellsLine};
 ghost use Rattle.exh_run.specs.Ends.{EndsText};
 
 use crate::Run;
 use crate::refusal::refuse_unprinted;
-use exh_answer::{Status, print_line};
+use exh_job::{Status, print_line};
 use exh_stream::Output;
 use std::alloc::AllocError;
 use std::io::Write;

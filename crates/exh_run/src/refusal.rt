@@ -3,12 +3,10 @@ ghost use Rattle.std.specs.Prelude.{◌≡◌};
 ghost use Rattle.exh_run.specs.Ends.{change_status, made_status, reading_status};
 
 use crate::Run;
-use exh_answer::Status;
-use exh_backup::unread_at;
-use exh_notes::Escaped;
+use exh_job::Status;
 use exh_page::Key;
-use exh_text::push_value;
-use exhash::StoreError;
+use exh_text::{Escaped, push_value};
+use exhash::{StoreError, unread_at};
 use std::alloc::AllocError;
 use std::fs;
 use std::io::ErrorKind;

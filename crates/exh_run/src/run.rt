@@ -1,5 +1,5 @@
 use exh_request::Form;
-use exh_system::Reason;
+use exhash::Reason;
 
 /// The run of an everyday command over the page file of a path.
 #[derive(Clone, Copy)]

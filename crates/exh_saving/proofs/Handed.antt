@@ -5,7 +5,7 @@ use Rattle.std.proofs.lemmas.Bool.{false≢true}
 use Rattle.std.specs.declared.result.Result.{Result}
 use Rattle.std.specs.declared.result.Result.TheVariants.{Err, Ok}
 use Rattle.std.specs.Option.{option_map}
-use Rattle.exh_disk.specs.declared.found.Found.{Found}
+use Rattle.exh_saving.specs.declared.found.Found.{Found}
 use Rattle.exh_saving.specs.declared.old.Old.{Old}
 
 -- what holds of the fault holds of the result that hands it on

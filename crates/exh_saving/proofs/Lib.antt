@@ -6,3 +6,5 @@ pub mod NoFile
 pub mod Moments
 -- for what takes a file's name away
 pub mod Stages
+-- for the folder of a path
+pub mod Slashes

@@ -6,8 +6,8 @@ use Rattle.std.proofs.lemmas.Bool.{cases_lt}
 use Rattle.std.proofs.lemmas.List.{drop-append-le}
 use Rattle.std.proofs.lemmas.List.Elements.{Contains-push_cases}
 use Rattle.std.proofs.Math.ListN.{drop_of_length-le}
-use Rattle.exh_disk.specs.History.{File, History, LeavesOldOrNew, LeavesOnly, Standing, kept, placed}
-use Rattle.exh_disk.specs.declared.fault.DiskFault.{DiskFault}
+use Rattle.exh_saving.specs.History.{File, History, LeavesOldOrNew, LeavesOnly, Standing, kept, placed}
+use Rattle.exh_saving.specs.declared.fault.DiskFault.{DiskFault}
 use Rattle.exh_saving.specs.Saved.{SavesAt, saved_history}
 use Rattle.exh_saving.specs.declared.saving.Saved.{Saved}
 

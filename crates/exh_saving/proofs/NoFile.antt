@@ -3,7 +3,7 @@ use Rattle.std.specs.Prelude.{◌≡◌, IfNone, IfOk, IfSome, IsSome, None, OnO
 use Rattle.std.specs.declared.result.Result.{Result}
 use Rattle.std.specs.declared.result.Result.TheVariants.{Err, Ok}
 use Rattle.std.proofs.lemmas.Bool.{false≢true}
-use Rattle.exh_disk.specs.declared.fault.DiskFault.{DiskFault}
+use Rattle.exh_saving.specs.declared.fault.DiskFault.{DiskFault}
 use Rattle.exh_saving.specs.declared.saving.Saved.{Saved}
 
 -- of no file nothing is to be said

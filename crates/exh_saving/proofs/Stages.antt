@@ -4,9 +4,9 @@ use Rattle.std.specs.Io.KnownBytes.{Appends}
 use Rattle.std.proofs.lemmas.Bool.{false≢true}
 use Rattle.std.specs.declared.result.Result.{Result}
 use Rattle.std.specs.declared.result.Result.TheVariants.{Err, Ok}
-use Rattle.exh_disk.specs.declared.stage.Stage.{Stage}
-use Rattle.exh_disk.specs.declared.stage.Stage.TheVariants.{Made, Left, Held, HeldLeft, OwnMade, OwnLeft, Restricted, Empty, Dressed, Written, Synchronized, Confirmed, Linked, Unlinkable, Placed, Settled}
-use Rattle.exh_disk.specs.Stage.{is_fillable, is_ours}
+use Rattle.exh_saving.specs.declared.stage.Stage.{Stage}
+use Rattle.exh_saving.specs.declared.stage.Stage.TheVariants.{Made, Left, Held, HeldLeft, OwnMade, OwnLeft, Restricted, Empty, Dressed, Written, Synchronized, Confirmed, Linked, Unlinkable, Placed, Settled}
+use Rattle.exh_saving.specs.Stage.{is_fillable, is_ours}
 
 -- what may be filled is the save's own
 pub fillable_ours : (stage : Stage) → is_fillable stage ≡ true → is_ours stage ≡ true

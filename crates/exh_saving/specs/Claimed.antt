@@ -5,14 +5,14 @@ use Rattle.std.specs.List.{All}
 use Rattle.std.specs.declared.io.Error.{Error}
 use Rattle.std.specs.declared.io.ErrorKind.{ErrorKind}
 use Rattle.std.specs.declared.io.ErrorKind.TheVariants.{AlreadyExists, NotFound, PermissionDenied, WouldBlock}
-use Rattle.exh_disk.specs.Answer.{Answer, Begins, Fails, IsBusyTold, IsTold, Named, Runs, Strange, Unnamed}
-use Rattle.exh_disk.specs.declared.fault.Call.{Call}
-use Rattle.exh_disk.specs.declared.fault.Call.TheVariants.{Ask, Empty, Lock, Make}
-use Rattle.exh_disk.specs.declared.fault.DiskFault.{DiskFault}
-use Rattle.exh_disk.specs.declared.fault.DiskFault.TheVariants.{Busy, Memory, NoName}
-use Rattle.exh_disk.specs.declared.found.Found.{Found}
-use Rattle.exh_disk.specs.declared.found.Head.{Head}
-use Rattle.exh_disk.specs.declared.found.Runner.{Runner}
+use Rattle.exh_saving.specs.Answer.{Answer, Begins, Fails, IsBusyTold, IsTold, Named, Runs, Strange, Unnamed}
+use Rattle.exh_saving.specs.declared.fault.Call.{Call}
+use Rattle.exh_saving.specs.declared.fault.Call.TheVariants.{Ask, Empty, Lock, Make}
+use Rattle.exh_saving.specs.declared.fault.DiskFault.{DiskFault}
+use Rattle.exh_saving.specs.declared.fault.DiskFault.TheVariants.{Busy, Memory, NoName}
+use Rattle.exh_saving.specs.declared.found.Found.{Found}
+use Rattle.exh_saving.specs.declared.found.Head.{Head}
+use Rattle.exh_saving.specs.declared.found.Runner.{Runner}
 use Rattle.exh_saving.specs.LeftOver.{BeginsAs, IsLeftOver}
 use Rattle.exh_saving.specs.Names.{IsBeside, suffixes}
 

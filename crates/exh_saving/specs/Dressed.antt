@@ -1,8 +1,8 @@
 -- Which owner, group and permissions a file beside a path gets.
 use Rattle.std.specs.Prelude.{ℕ, Bool, true, false, None, Some, bit_and}
 use Rattle.std.specs.declared.io.Error.{Error}
-use Rattle.exh_disk.specs.Answer.{Answer, Fails, Gives, Permits}
-use Rattle.exh_disk.specs.declared.found.Found.{Found}
+use Rattle.exh_saving.specs.Answer.{Answer, Fails, Gives, Permits}
+use Rattle.exh_saving.specs.declared.found.Found.{Found}
 
 -- of an old file's permissions all; all but what only serves under its owner and its group; or neither that nor its group's
 abbrev pub dressed_mode : ℕ → Bool → Bool → ℕ

@@ -1,9 +1,9 @@
 -- What a killed save may have left beside a path.
 use Rattle.std.specs.Prelude.{◌≡◌, ◌⊎◌, ℕ, IsSomeAnd, List, Option, min, take}
-use Rattle.exh_disk.specs.declared.found.Found.{Found}
-use Rattle.exh_disk.specs.declared.found.Head.{Head}
-use Rattle.exh_disk.specs.declared.found.Kind.TheVariants.{Regular}
-use Rattle.exh_disk.specs.declared.found.Runner.{Runner}
+use Rattle.exh_saving.specs.declared.found.Found.{Found}
+use Rattle.exh_saving.specs.declared.found.Head.{Head}
+use Rattle.exh_saving.specs.declared.found.Kind.TheVariants.{Regular}
+use Rattle.exh_saving.specs.declared.found.Runner.{Runner}
 
 -- a regular file of one name, of whom the program runs for, or of whose the old file is
 pub record IsLeftOver (found : Found) (runner : Option Runner) (old : Option Found) : Type 0 where

@@ -6,3 +6,11 @@ pub mod Refused
 pub mod Replaced
 pub mod Saved
 pub mod Unsaved
+pub mod Answer
+pub mod CallText
+pub mod DiskFault
+pub mod Folder
+pub mod Found
+pub mod History
+pub mod Seen
+pub mod Stage

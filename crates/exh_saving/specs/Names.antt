@@ -1,6 +1,6 @@
 -- The names beside a path.
 use Rattle.std.specs.Prelude.{◌≡◌, ◌++◌, ◌+◌, ◌-◌, ◌<◌, ◌≤◌, ℕ, IsCharBoundary, List, [], ◌∷◌, codes, length, take}
-use Rattle.exh_disk.specs.Folder.{IsNameIn}
+use Rattle.exh_saving.specs.Folder.{IsNameIn}
 
 -- the last place at or before this one at which no character is cut
 pub record IsCutAt (text : List ℕ) (place cut : ℕ) : Type 0 where

@@ -4,18 +4,18 @@ use Rattle.std.specs.Borrow.{Bor}
 use Rattle.std.specs.IoError.{error_kind}
 use Rattle.std.specs.declared.io.Error.{Error}
 use Rattle.std.specs.declared.io.ErrorKind.TheVariants.{NotFound}
-use Rattle.exh_disk.specs.Answer.{Answer, Begins, Fails, IsTold, Leads, Named, Runs}
-use Rattle.exh_disk.specs.Folder.{IsFolderOf, IsNameIn}
-use Rattle.exh_disk.specs.Found.{IsClosedTo, IsUnchanged}
-use Rattle.exh_disk.specs.Seen.{IsKept, MayBeSeen, MayReplace}
-use Rattle.exh_disk.specs.declared.fault.Call.TheVariants.{Ask, Make, Open}
-use Rattle.exh_disk.specs.declared.fault.DiskFault.{DiskFault}
-use Rattle.exh_disk.specs.declared.fault.DiskFault.TheVariants.{Changed, ClosedFolder, DanglingLink, Folder, Memory, NoFileName, NoPageFile}
-use Rattle.exh_disk.specs.declared.found.Found.{Found}
-use Rattle.exh_disk.specs.declared.found.Head.{Head}
-use Rattle.exh_disk.specs.declared.found.Kind.TheVariants.{Folder as FolderKind, Link, Regular}
-use Rattle.exh_disk.specs.declared.found.Runner.{Runner}
-use Rattle.exh_disk.specs.declared.seen.Seen.{Seen}
+use Rattle.exh_saving.specs.Answer.{Answer, Begins, Fails, IsTold, Leads, Named, Runs}
+use Rattle.exh_saving.specs.Folder.{IsFolderOf, IsNameIn}
+use Rattle.exh_saving.specs.Found.{IsClosedTo, IsUnchanged}
+use Rattle.exh_saving.specs.Seen.{IsKept, MayBeSeen, MayReplace}
+use Rattle.exh_saving.specs.declared.fault.Call.TheVariants.{Ask, Make, Open}
+use Rattle.exh_saving.specs.declared.fault.DiskFault.{DiskFault}
+use Rattle.exh_saving.specs.declared.fault.DiskFault.TheVariants.{Changed, ClosedFolder, DanglingLink, Folder, Memory, NoFileName, NoPageFile}
+use Rattle.exh_saving.specs.declared.found.Found.{Found}
+use Rattle.exh_saving.specs.declared.found.Head.{Head}
+use Rattle.exh_saving.specs.declared.found.Kind.TheVariants.{Folder as FolderKind, Link, Regular}
+use Rattle.exh_saving.specs.declared.found.Runner.{Runner}
+use Rattle.exh_saving.specs.declared.seen.Seen.{Seen}
 use Rattle.exh_saving.specs.Replaced.{IsFree, IsReplaceable}
 
 -- something has a name: a link, which leads to nothing; or what came meanwhile

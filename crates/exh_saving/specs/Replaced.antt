@@ -1,14 +1,14 @@
 -- What a save may write to, by what a disk answered of it.
 use Rattle.std.specs.Prelude.{◌≡◌, ◌⊎◌, ℕ, ⊤, IfSome, List, None, Option, Some}
 use Rattle.std.specs.Borrow.{Bor}
-use Rattle.exh_disk.specs.Answer.{Answer, Begins, Leads, Named, Unnamed}
-use Rattle.exh_disk.specs.Folder.{IsFolderOf}
-use Rattle.exh_disk.specs.Found.{IsUnchanged}
-use Rattle.exh_disk.specs.Seen.{MayReplace}
-use Rattle.exh_disk.specs.declared.found.Found.{Found}
-use Rattle.exh_disk.specs.declared.found.Head.{Head}
-use Rattle.exh_disk.specs.declared.found.Kind.TheVariants.{Folder, Link, Other, Regular}
-use Rattle.exh_disk.specs.declared.seen.Seen.{Seen}
+use Rattle.exh_saving.specs.Answer.{Answer, Begins, Leads, Named, Unnamed}
+use Rattle.exh_saving.specs.Folder.{IsFolderOf}
+use Rattle.exh_saving.specs.Found.{IsUnchanged}
+use Rattle.exh_saving.specs.Seen.{MayReplace}
+use Rattle.exh_saving.specs.declared.found.Found.{Found}
+use Rattle.exh_saving.specs.declared.found.Head.{Head}
+use Rattle.exh_saving.specs.declared.found.Kind.TheVariants.{Folder, Link, Other, Regular}
+use Rattle.exh_saving.specs.declared.seen.Seen.{Seen}
 
 -- a regular file is empty or begins with these bytes, and was what it is when they were read
 pub record IsPageFile (magic : List ℕ) (found : Found) (head : Head) : Type 0 where

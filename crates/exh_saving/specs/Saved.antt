@@ -2,9 +2,9 @@
 use Rattle.std.specs.Prelude.{◌≡◌, ◌⊎◌, ℕ, IfNone, IfOk, IfSome, List, None, OnErr, Option, Result, Some, string_bytes}
 use Rattle.std.specs.Io.KnownBytes.{Appends}
 use Rattle.std.specs.declared.io.Error.{Error}
-use Rattle.exh_disk.specs.History.{File, History, LeavesOldOrNew, LeavesOnly, Nothing, Standing, kept, placed}
-use Rattle.exh_disk.specs.declared.fault.DiskFault.{DiskFault}
-use Rattle.exh_disk.specs.Answer.{Answer}
+use Rattle.exh_saving.specs.History.{File, History, LeavesOldOrNew, LeavesOnly, Nothing, Standing, kept, placed}
+use Rattle.exh_saving.specs.declared.fault.DiskFault.{DiskFault}
+use Rattle.exh_saving.specs.Answer.{Answer}
 use Rattle.exh_saving.specs.Replaced.{LeadsToDevice}
 use Rattle.exh_saving.specs.declared.path.PathTo.{PathTo}
 use Rattle.exh_saving.specs.declared.path.PathTo.TheVariants.{Device, File as Path}

@@ -4,14 +4,14 @@ use Rattle.std.specs.Borrow.{Bor}
 use Rattle.std.specs.IoError.{error_kind}
 use Rattle.std.specs.declared.io.Error.{Error}
 use Rattle.std.specs.declared.io.ErrorKind.TheVariants.{AlreadyExists, InvalidInput}
-use Rattle.exh_disk.specs.Answer.{Answer, Fails, IsHoldTold, IsRegular, IsTold, Named, Stays}
-use Rattle.exh_disk.specs.DiskFault.{told}
-use Rattle.exh_disk.specs.Seen.{IsGone}
-use Rattle.exh_disk.specs.declared.fault.Call.TheVariants.{Ask, Link, Open, Permit, Rename, Synchronize, Write}
-use Rattle.exh_disk.specs.declared.fault.DiskFault.{DiskFault}
-use Rattle.exh_disk.specs.declared.fault.DiskFault.TheVariants.{Changed, Memory, Source}
-use Rattle.exh_disk.specs.declared.found.Found.{Found}
-use Rattle.exh_disk.specs.declared.seen.Seen.{Seen}
+use Rattle.exh_saving.specs.Answer.{Answer, Fails, IsHoldTold, IsRegular, IsTold, Named, Stays}
+use Rattle.exh_saving.specs.DiskFault.{told}
+use Rattle.exh_saving.specs.Seen.{IsGone}
+use Rattle.exh_saving.specs.declared.fault.Call.TheVariants.{Ask, Link, Open, Permit, Rename, Synchronize, Write}
+use Rattle.exh_saving.specs.declared.fault.DiskFault.{DiskFault}
+use Rattle.exh_saving.specs.declared.fault.DiskFault.TheVariants.{Changed, Memory, Source}
+use Rattle.exh_saving.specs.declared.found.Found.{Found}
+use Rattle.exh_saving.specs.declared.seen.Seen.{Seen}
 use Rattle.exh_saving.specs.Claimed.{FailsAs, IsClaimed, IsNotOwn, IsUnclaimed}
 use Rattle.exh_saving.specs.Dressed.{IsDressed}
 use Rattle.exh_saving.specs.Refused.{IsOldRefused, IsPathRefused}

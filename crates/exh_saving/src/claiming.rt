@@ -1,16 +1,16 @@
 //! The file beside a path that a save has for itself.
 ghost use Rattle.std.specs.Prelude.{◌≡◌, ◌≢◌, ◌⊎◌, ◌↔◌, IfErr, IfNone, IfOk, IfSome, IsTrue, OnErr, OnOk, is_some, string_bytes, true};
 ghost use Rattle.std.specs.Option.{option_copied};
-ghost use Rattle.exh_disk.specs.Answer.{IsTold, Owned};
-ghost use Rattle.exh_disk.specs.declared.fault.Call.TheVariants.{Empty as EmptyCall, Make};
-ghost use Rattle.exh_disk.specs.declared.stage.Stage.TheVariants.{Empty, Made, OwnLeft};
-ghost use Rattle.exh_disk.specs.History.{SameBut};
-ghost use Rattle.exh_disk.specs.Stage.{asked, is_ours, locked};
+ghost use Rattle.exh_saving.specs.Answer.{IsTold, Owned};
+ghost use Rattle.exh_saving.specs.declared.fault.Call.TheVariants.{Empty as EmptyCall, Make};
+ghost use Rattle.exh_saving.specs.declared.stage.Stage.TheVariants.{Empty, Made, OwnLeft};
+ghost use Rattle.exh_saving.specs.History.{SameBut};
+ghost use Rattle.exh_saving.specs.Stage.{asked, is_ours, locked};
 ghost use Rattle.exh_saving.specs.Claimed.{IsClaimed, IsNotOwn, IsOfASave, IsRunner, IsTakenName, IsUnclaimed, IsUnmade, IsUnowned, MayClaim};
 ghost use Rattle.exh_saving.specs.LeftOver.{BeginsAs, IsLeftOver};
 
 use crate::names::{NAMES, name_beside, names_beside, suffix_of};
-use exh_disk::{Call, Disk, DiskFault, Found, Head, Kind, Runner};
+use crate::{Call, Disk, DiskFault, Found, Head, Kind, Runner};
 use std::alloc::Global;
 use std::io::ErrorKind;
 

@@ -1,9 +1,9 @@
 ghost use Rattle.std.specs.Prelude.{◌≡◌, IfErr, OnErr, OnOk};
-ghost use Rattle.exh_disk.specs.Answer.{Fails, Gives};
-ghost use Rattle.exh_disk.specs.declared.stage.Stage.TheVariants.{Dressed, Empty};
+ghost use Rattle.exh_saving.specs.Answer.{Fails, Gives};
+ghost use Rattle.exh_saving.specs.declared.stage.Stage.TheVariants.{Dressed, Empty};
 ghost use Rattle.exh_saving.specs.Dressed.{IsDressed, IsGiven, dressed_mode};
 
-use exh_disk::{Disk, Found};
+use crate::{Disk, Found};
 use std::io;
 
 // All permissions but those that only serve under an owner and a group that were asked for; and of these all but the group's.

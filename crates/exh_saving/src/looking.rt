@@ -1,13 +1,12 @@
 ghost use Rattle.std.specs.Prelude.{◌≡◌, IfErr, IsTrue, OnOk};
-ghost use Rattle.exh_disk.specs.Answer.{Runs};
-ghost use Rattle.exh_disk.specs.Found.{IsClosedTo};
-ghost use Rattle.exh_disk.specs.declared.found.Runner.{Runner};
+ghost use Rattle.exh_saving.specs.Answer.{Runs};
+ghost use Rattle.exh_saving.specs.Found.{IsClosedTo};
+ghost use Rattle.exh_saving.specs.declared.found.Runner.{Runner};
 ghost use Rattle.exh_saving.specs.Refused.{IsFolderRefused, IsRefused};
 ghost use Rattle.exh_saving.specs.Replaced.{IsOpenFolder, MaySave};
 
-use crate::Target;
 use crate::path::{PathTo, old_at, path_to};
-use exh_disk::{Call, Disk, DiskFault, Found, Kind, folder_of};
+use crate::{Call, Disk, DiskFault, Found, Kind, Target, folder_of};
 use std::alloc::Global;
 
 /// Whether a path can be saved to, as far as asking tells. Nothing is changed.

@@ -2,7 +2,7 @@
 ghost use Rattle.std.specs.Prelude.{◌≡◌, ◌++◌, ◌+◌, ◌<◌, ◌≤◌, [], IfOk, length, slice_index_or, string_bytes};
 ghost use Rattle.exh_saving.specs.Names.{IsBeside, suffixes};
 
-use exh_disk::file_name_of;
+use crate::file_name_of;
 use std::alloc::{AllocError, Global};
 
 /// How many names there are beside a path.

@@ -1,15 +1,14 @@
 //! The file that a save replaces, under its lock.
 ghost use Rattle.std.specs.Prelude.{◌≡◌, ◌≢◌, IfErr, IfOk, IfSome, OnOk, true};
 ghost use Rattle.std.specs.Option.{option_map};
-ghost use Rattle.exh_disk.specs.Answer.{Named, Stays};
-ghost use Rattle.exh_disk.specs.declared.fault.DiskFault.TheVariants.{Memory};
+ghost use Rattle.exh_saving.specs.Answer.{Named, Stays};
+ghost use Rattle.exh_saving.specs.declared.fault.DiskFault.TheVariants.{Memory};
 ghost use Rattle.exh_saving.specs.Replaced.{MayTake};
 ghost use Rattle.exh_saving.specs.Unsaved.{IsMoved, IsOldUnheld, IsUnheld};
 
-use crate::Target;
 use crate::names::{NAMES, name_beside, suffix_of};
 use crate::path::old_at;
-use exh_disk::{Call, Disk, DiskFault, Found, hold, leads_to};
+use crate::{Call, Disk, DiskFault, Found, Target, hold, leads_to};
 use std::alloc::Global;
 use std::io::ErrorKind;
 

@@ -1,13 +1,12 @@
 ghost use Rattle.std.specs.Prelude.{◌≡◌, IfErr, IfOk, IfSome, MatchOption, OnOk};
-ghost use Rattle.exh_disk.specs.Answer.{IsTold, Leads, Named, Unnamed};
-ghost use Rattle.exh_disk.specs.Seen.{MayReplace};
-ghost use Rattle.exh_disk.specs.declared.fault.Call.TheVariants.{Ask};
+ghost use Rattle.exh_saving.specs.Answer.{IsTold, Leads, Named, Unnamed};
+ghost use Rattle.exh_saving.specs.Seen.{MayReplace};
+ghost use Rattle.exh_saving.specs.declared.fault.Call.TheVariants.{Ask};
 ghost use Rattle.exh_saving.specs.Refused.{IsFileRefused, IsNameRefused, IsOldRefused, IsPathRefused, IsUnfound};
 ghost use Rattle.exh_saving.specs.Replaced.{IsFree, IsReplaceable, IsReplaceableFile};
 ghost use Rattle.exh_saving.specs.Saved.{Reaches};
 
-use crate::Target;
-use exh_disk::{Call, Disk, DiskFault, Found, Kind, file_name_of};
+use crate::{Call, Disk, DiskFault, Found, Kind, Target, file_name_of};
 use std::alloc::Global;
 use std::io::ErrorKind;
 

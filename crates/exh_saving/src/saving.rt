@@ -1,7 +1,7 @@
 //! A save.
 ghost use Rattle.std.specs.Prelude.{◌≡◌, ◌⊎◌, ℕ, IfErr, IfNone, IfOk, IfSome, IsSome, List, None, OnErr, OnOk};
 ghost use Rattle.std.specs.Io.KnownBytes.{Appends};
-ghost use Rattle.exh_disk.specs.declared.stage.Stage.TheVariants.{Settled};
+ghost use Rattle.exh_saving.specs.declared.stage.Stage.TheVariants.{Settled};
 ghost use Rattle.exh_saving.specs.Replaced.{LeadsToDevice};
 ghost use Rattle.exh_saving.specs.Saved.{IsSaved, IsWrittenTo, SavesAt};
 ghost use Rattle.exh_saving.specs.Unsaved.{IsDeviceUnwritten, IsSaveRefused, IsUnsaved, MayPlace};
@@ -9,8 +9,7 @@ ghost use Rattle.exh_saving.specs.Unsaved.{IsDeviceUnwritten, IsSaveRefused, IsU
 use crate::beside::save_beside;
 use crate::path::{PathTo, path_to};
 use crate::writing::write_source;
-use crate::{Source, Target, Watch};
-use exh_disk::{Call, Disk, DiskFault};
+use crate::{Call, Disk, DiskFault, Source, Target, Watch};
 use std::alloc::Global;
 use std::io;
 use std::io::ErrorKind;

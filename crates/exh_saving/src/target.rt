@@ -1,4 +1,4 @@
-use exh_disk::Seen;
+use crate::Seen;
 
 /// Where is to be saved.
 #[derive(Clone, Copy)]

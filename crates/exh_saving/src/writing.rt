@@ -3,8 +3,7 @@ ghost use Rattle.std.specs.Io.KnownBytes.{Appends};
 ghost use Rattle.exh_saving.specs.Unsaved.{IsUnwritten};
 
 use crate::fault_keeper::FaultKeeper;
-use crate::{Source, SourceFault, Watch};
-use exh_disk::{Call, DiskFault};
+use crate::{Call, DiskFault, Source, SourceFault, Watch};
 use std::io::Write;
 
 /// Writes a source to a writer, tells a watch of its bytes, and gives both back. Where the writer failed, the fault is its

@@ -5,7 +5,7 @@ use Rattle.exh_keyer.specs.Pseudokey.{any_pseudokey}
 use Rattle.exh_text.specs.declared.line_fault.LineFault.{LineFault}
 use Rattle.exh_ward.specs.WardState.{WardState}
 use Rattle.exh_ward.specs.declared.ward_fault.WardFault.TheVariants.{NoPage}
-use Rattle.exh_event.specs.declared.step_fault.StepFault.TheVariants.{NoWard, Ward}
+use Rattle.exh_walk.specs.declared.step_fault.StepFault.TheVariants.{NoWard, Ward}
 use Rattle.exh_world.specs.Alike.{AreAlike, StepFunctionGoesAlike, uncounted}
 use Rattle.exh_world.specs.WorldListLemmas.{altered_has}
 use Rattle.exh_line.specs.LineAnswer.{step_answer}

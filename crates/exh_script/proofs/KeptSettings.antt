@@ -8,10 +8,10 @@ use Rattle.exh_world.specs.NewWorld.{settings_of}
 use Rattle.exh_world.specs.Sound.{IsSoundWorld}
 use Rattle.exh_world.specs.Step.{Step}
 use Rattle.exh_world.specs.StepFunction.{result_of, world_after}
-use Rattle.exh_settings.specs.declared.config.Config.{Config}
-use Rattle.exh_event.specs.declared.event.Event.{Event}
-use Rattle.exh_event.specs.declared.outcome.Outcome.{Outcome}
-use Rattle.exh_event.specs.declared.step_fault.StepFault.{StepFault}
+use Rattle.exh_page.specs.declared.config.Config.{Config}
+use Rattle.exh_walk.specs.declared.event.Event.{Event}
+use Rattle.exh_walk.specs.declared.outcome.Outcome.{Outcome}
+use Rattle.exh_walk.specs.declared.step_fault.StepFault.{StepFault}
 use Rattle.exh_line.specs.Grammar.{line_of}
 use Rattle.exh_script.specs.Replies.{world_left}
 use Rattle.exh_script.specs.Text.{ScriptWorld, after_parsed, after_line}

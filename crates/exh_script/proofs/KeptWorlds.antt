@@ -3,14 +3,14 @@ use Rattle.std.proofs.Common.{◌≡◌, ℕ, List, [], ◌∷◌, ◌++◌, map
 use Rattle.std.specs.List.{AllByRecursion}
 use Rattle.exh_keyer.specs.declared.any_keyer.AnyKeyer.{AnyKeyer}
 use Rattle.exh_keyer.specs.Pseudokey.{any_pseudokey}
-use Rattle.exh_route.specs.RouteLaws.{RunsKeepWardsSound}
+use Rattle.exh_walk.specs.RouteLaws.{RunsKeepWardsSound}
 use Rattle.exh_text.specs.declared.line_fault.LineFault.{LineFault}
 use Rattle.exh_ward.specs.WardState.{WardState, IsSoundWard}
 use Rattle.exh_world.specs.WorldLaws.{AreWardsSound, StepsHaveOutcomes, StepsKeepWorldsSound}
 use Rattle.exh_world.specs.WorldRun.{Moment, IsRun, answered_at, journal_entry_of}
 use Rattle.exh_world.specs.Sound.{IsSoundWorld}
 use Rattle.exh_world.specs.StepFunction.{result_of, world_after}
-use Rattle.exh_event.specs.declared.event.Event.{Event}
+use Rattle.exh_walk.specs.declared.event.Event.{Event}
 use Rattle.exh_line.specs.Grammar.{line_of}
 use Rattle.exh_script.specs.Replies.{world_left}
 use Rattle.exh_script.specs.Text.{ScriptWorld, after_parsed, after_line}

@@ -20,8 +20,8 @@ use Rattle.exh_world.specs.WorldLaws.{NewWorldsAreSound}
 use Rattle.exh_ward.specs.NewWards.{new_ward}
 use Rattle.exh_world.specs.NewWorld.{new_world}
 use Rattle.exh_world.specs.World.{map_in}
-use Rattle.exh_settings.specs.Config.{file_settings}
-use Rattle.exh_settings.specs.declared.config.Config.{Config}
+use Rattle.exh_page.specs.Config.{file_settings}
+use Rattle.exh_page.specs.declared.config.Config.{Config}
 use Rattle.exh_world.specs.WorldListLemmas.{mapped_is}
 use Rattle.exh_script.specs.Text.{opened, settings_of}
 use Rattle.exh_text.specs.FileLine.{file_in_range, settings_in_range, file_line_of, spelled_file}

@@ -6,11 +6,11 @@ use Rattle.exh_keyer.specs.declared.any_keyer.AnyKeyer.{AnyKeyer}
 use Rattle.exh_keyer.specs.declared.any_keyer.AnyKeyer.TheVariants.{Plain, Sha}
 use Rattle.exh_keyer.specs.Pseudokey.{any_pseudokey}
 use Rattle.exh_prefix.specs.declared.prefix.TheConstants.{WARD_BITS_LIMIT}
-use Rattle.exh_file.specs.Opened.{AreWardsOf, OpenedState}
+use Rattle.exh_load.specs.Opened.{AreWardsOf, OpenedState}
 use Rattle.exh_world.specs.WorldLaws.{WorldsOfWardsAreSound}
 use Rattle.exh_world.specs.NewWorld.{AreWardsFor, settings_of, world_of_wards}
 use Rattle.exh_world.specs.Sound.{IsSoundWorld}
-use Rattle.exh_settings.specs.declared.config.Config.{Config}
+use Rattle.exh_page.specs.declared.config.Config.{Config}
 use Rattle.exh_script.specs.AnyStart.{BeginsSound}
 use Rattle.exh_script.specs.Text.{ScriptWorld}
 use Rattle.exh_line.specs.declared.refusal.Refusal.TheVariants.{OtherFile}
@@ -18,7 +18,7 @@ use Rattle.exh_page.specs.declared.page.TheConstants.{CAP_LIMIT}
 use Rattle.exh_ward.specs.WardState.{WardState}
 use Rattle.exh_script.specs.ScriptLaws.{IsSoundFile}
 use Rattle.exh_script.specs.Left.{file_left}
-use Rattle.exh_settings.specs.Keyers.{is_same_keyer}
+use Rattle.exh_page.specs.Keyers.{is_same_keyer}
 use Rattle.exh_script.specs.OpenedScript.{is_of_file, opened_file}
 
 same_keyer : (keyer other : AnyKeyer) → is_same_keyer keyer other ≡ true → keyer ≡ other

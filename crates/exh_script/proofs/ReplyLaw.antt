@@ -8,20 +8,20 @@ use Rattle.exh_keyer.specs.declared.any_keyer.AnyKeyer.{AnyKeyer}
 use Rattle.exh_keyer.specs.Pseudokey.{any_pseudokey}
 use Rattle.exh_text.specs.declared.line_fault.LineFault.{LineFault}
 use Rattle.exh_calls.specs.declared.call.Call.{Call}
-use Rattle.exh_event.specs.EventProgress.{Progress, hop_outcome}
-use Rattle.exh_event.specs.EventProgress as hops
+use Rattle.exh_walk.specs.EventProgress.{Progress, hop_outcome}
+use Rattle.exh_walk.specs.EventProgress as hops
 use Rattle.exh_calls.specs.declared.journal_entry.JournalEntry.{JournalEntry}
 use Rattle.exh_world.specs.InFlight.{Requests}
 use Rattle.exh_world.specs.WorldRun.{answered_by, answered_at, journal_entry_of}
 use Rattle.exh_world.specs.Step.{pseudokey_in, request_begun, HasBegun, HasHopped, HasEffect, Step}
 use Rattle.exh_world.specs.StepFunction.{result_of, world_after}
-use Rattle.exh_event.specs.declared.event.Event.{Event}
-use Rattle.exh_event.specs.declared.event.Event.TheVariants as events
-use Rattle.exh_event.specs.declared.outcome.Outcome.{Outcome}
-use Rattle.exh_event.specs.declared.outcome.Outcome.TheVariants as outcomes
+use Rattle.exh_walk.specs.declared.event.Event.{Event}
+use Rattle.exh_walk.specs.declared.event.Event.TheVariants as events
+use Rattle.exh_walk.specs.declared.outcome.Outcome.{Outcome}
+use Rattle.exh_walk.specs.declared.outcome.Outcome.TheVariants as outcomes
 use Rattle.exh_world.specs.World.{changes_in}
 use Rattle.exh_world.specs.declared.request.Request.{Request}
-use Rattle.exh_event.specs.declared.step_fault.StepFault.{StepFault}
+use Rattle.exh_walk.specs.declared.step_fault.StepFault.{StepFault}
 use Rattle.exh_world.specs.StepEffectLemmas.{on_effect, on_refusal}
 use Rattle.exh_line.specs.LineAnswer.{told_moves, outcome_answer, step_answer}
 use Rattle.exh_line.specs.Grammar.{line_of}

@@ -10,7 +10,7 @@ use Rattle.exh_text.specs.TextLines.{lines_of}
 use Rattle.exh_script.specs.Served.{PrintsText, PrintsWhole, PrintsUnread, PrintsFront, PrintsLines, fault_of, unread_text}
 use Rattle.exh_line.specs.RefusalText.{refusal_text}
 use Rattle.exh_script.specs.Text.{Beginning, text_of_lines, text_of}
-use Rattle.exh_file.specs.Opened.{OpenedState}
+use Rattle.exh_load.specs.Opened.{OpenedState}
 use Rattle.exh_script.specs.Left.{left_of_lines, left_of}
 use Rattle.exh_line.specs.declared.refusal.Refusal.TheVariants.{TooLong}
 use Rattle.exh_script.specs.declared.response_fault.ResponseFault.{ResponseFault}

@@ -12,7 +12,7 @@ use Rattle.exh_world.specs.WorldLaws.{AreWardsSound, RunsCarryTheHeadline}
 use Rattle.exh_world.specs.WorldRun.{Moment, answered_in, journal_entry_of}
 use Rattle.exh_world.specs.Sound.{IsSoundWorld}
 use Rattle.exh_world.specs.World.{map_in}
-use Rattle.exh_event.specs.declared.turn.Turn.{Turn as StepTurn}
+use Rattle.exh_walk.specs.declared.turn.Turn.{Turn as StepTurn}
 use Rattle.exh_script.specs.AnyStart.{HasOwnMore, RepliesFrom}
 use Rattle.exh_script.specs.Replies.{steps_from, world_left, ShowTheSame}
 use Rattle.exh_script.specs.Text.{ScriptWorld, Start, text_from}

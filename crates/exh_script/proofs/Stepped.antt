@@ -5,10 +5,10 @@ use Rattle.exh_keyer.specs.Pseudokey.{any_pseudokey}
 use Rattle.exh_ward.specs.declared.ward_fault.WardFault.TheVariants.{Memory, Page}
 use Rattle.exh_world.specs.WorldLaws.{IsComputed, IsCounted}
 use Rattle.exh_world.specs.StepFunction.{result_of, world_after}
-use Rattle.exh_event.specs.declared.event.Event.{Event}
-use Rattle.exh_event.specs.declared.outcome.Outcome.{Outcome}
-use Rattle.exh_event.specs.declared.step_fault.StepFault.{StepFault}
-use Rattle.exh_event.specs.declared.step_fault.StepFault.TheVariants.{Ward}
+use Rattle.exh_walk.specs.declared.event.Event.{Event}
+use Rattle.exh_walk.specs.declared.outcome.Outcome.{Outcome}
+use Rattle.exh_walk.specs.declared.step_fault.StepFault.{StepFault}
+use Rattle.exh_walk.specs.declared.step_fault.StepFault.TheVariants.{Ward}
 use Rattle.exh_line.specs.LineAnswer.{answer_text, outcome_answer, step_answer}
 use Rattle.exh_line.specs.declared.answer.Answer.{Answer}
 use Rattle.exh_line.specs.declared.answer.Answer.TheVariants.{Refused}

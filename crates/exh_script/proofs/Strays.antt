@@ -10,10 +10,10 @@ use Rattle.exh_ward.specs.declared.hop.Hop.TheVariants as hops
 use Rattle.exh_world.specs.Headline.{DoesNotStray as KeepsCourse}
 use Rattle.exh_world.specs.WorldRun.{Moment}
 use Rattle.exh_world.specs.StepFunction.{result_of}
-use Rattle.exh_event.specs.declared.event.Event.{Event}
-use Rattle.exh_event.specs.declared.outcome.Outcome.{Outcome}
-use Rattle.exh_event.specs.declared.outcome.Outcome.TheVariants as outcomes
-use Rattle.exh_event.specs.declared.step_fault.StepFault.{StepFault}
+use Rattle.exh_walk.specs.declared.event.Event.{Event}
+use Rattle.exh_walk.specs.declared.outcome.Outcome.{Outcome}
+use Rattle.exh_walk.specs.declared.outcome.Outcome.TheVariants as outcomes
+use Rattle.exh_walk.specs.declared.step_fault.StepFault.{StepFault}
 use Rattle.exh_line.specs.LineAnswer.{step_answer}
 use Rattle.exh_line.specs.Grammar.{line_of}
 use Rattle.exh_script.specs.Replies.{turns_from, SaysNoStray}

@@ -15,22 +15,22 @@ use Rattle.exh_ward.specs.HopTable.{HopOf}
 use Rattle.exh_ward.specs.MergeStep.{IsMergeStep}
 use Rattle.exh_ward.specs.SplitStep.{IsSplitStep}
 use Rattle.exh_ward.specs.WardState.{WardState, IsSoundWard}
-use Rattle.exh_event.specs.EventProgress.{hop_in, Progress, Done, Moved, MustSplit, Stray, hop_outcome}
+use Rattle.exh_walk.specs.EventProgress.{hop_in, Progress, Done, Moved, MustSplit, Stray, hop_outcome}
 use Rattle.exh_calls.specs.declared.journal_entry.JournalEntry.{JournalEntry}
 use Rattle.exh_ward.specs.declared.ward_fault.WardFault.TheVariants.{Page}
-use Rattle.exh_route.specs.RouteLaws.{RunsKeepWardsSound}
-use Rattle.exh_route.specs.WardRun.{WardEvent, HopAt, SplitAt, MergeAt, WardStep}
+use Rattle.exh_walk.specs.RouteLaws.{RunsKeepWardsSound}
+use Rattle.exh_walk.specs.WardRun.{WardEvent, HopAt, SplitAt, MergeAt, WardStep}
 use Rattle.exh_world.specs.InFlight.{request_named}
 use Rattle.exh_world.specs.WorldRun.{answered_by, answered_at, journal_entry_of}
 use Rattle.exh_world.specs.Sound.{IsOnTheWay, IsSoundWorld}
 use Rattle.exh_world.specs.Step.{HasHopped, HasChanged, HasEffect, Step}
 use Rattle.exh_prefix.specs.Leading.{ward_of, ward_prefix}
-use Rattle.exh_event.specs.declared.event.Event.{Event}
-use Rattle.exh_event.specs.declared.event.Event.TheVariants.{Hop as HopOn}
-use Rattle.exh_event.specs.declared.outcome.Outcome.{Outcome}
-use Rattle.exh_event.specs.declared.outcome.Outcome.TheVariants.{Replied}
+use Rattle.exh_walk.specs.declared.event.Event.{Event}
+use Rattle.exh_walk.specs.declared.event.Event.TheVariants.{Hop as HopOn}
+use Rattle.exh_walk.specs.declared.outcome.Outcome.{Outcome}
+use Rattle.exh_walk.specs.declared.outcome.Outcome.TheVariants.{Replied}
 use Rattle.exh_world.specs.declared.request.Request.{Request}
-use Rattle.exh_event.specs.declared.step_fault.StepFault.{StepFault}
+use Rattle.exh_walk.specs.declared.step_fault.StepFault.{StepFault}
 use Rattle.exh_world.specs.StepEffectLemmas.{on_effect, on_refusal}
 use Rattle.exh_world.specs.RequestLemmas.{all_named}
 use Rattle.exh_script.specs.Text.{ScriptWorld}

@@ -13,7 +13,7 @@ use Rattle.exh_world.specs.NewWorld.{settings_of}
 use Rattle.exh_world.specs.WorldRun.{answered_in, journal_entry_of}
 use Rattle.exh_world.specs.Sound.{IsSoundWorld}
 use Rattle.exh_world.specs.World.{map_in}
-use Rattle.exh_settings.specs.declared.config.Config.{Config}
+use Rattle.exh_page.specs.declared.config.Config.{Config}
 use Rattle.exh_line.specs.LineAnswer.{answer_text}
 use Rattle.exh_text.specs.FileLine.{file_in_range}
 use Rattle.exh_script.specs.Replies.{turns_from, world_left, steps_from, EnterInOrder, SaysNoStray, ShowTheSame}

@@ -1,7 +1,7 @@
 -- The wards that the run of a script leaves, where it is done.
 use Rattle.std.specs.Prelude.{ℕ, List, [], ◌∷◌, length, nat_le, if◌then◌else◌, Option, None, Some, Result, Ok, Err}
 use Rattle.exh_text.specs.TextLines.{lines_of}
-use Rattle.exh_file.specs.Opened.{OpenedState}
+use Rattle.exh_load.specs.Opened.{OpenedState}
 use Rattle.exh_script.specs.Replies.{world_left}
 use Rattle.exh_script.specs.Text.{ScriptWorld, Beginning, Start, start_of}
 use Rattle.exh_script.specs.declared.ended.Ended.{Ended}

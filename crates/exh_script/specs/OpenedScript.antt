@@ -1,11 +1,11 @@
 -- The world that a script's first line begins, over the wards of an opened file or over none.
 use Rattle.std.specs.Prelude.{Bool, if◌then◌else◌, Option, None, Some, Ok, Err}
 use Rattle.exh_keyer.specs.declared.any_keyer.AnyKeyer.{AnyKeyer}
-use Rattle.exh_settings.specs.FileSettings.{are_same}
-use Rattle.exh_file.specs.Opened.{OpenedState, settings_in}
+use Rattle.exh_page.specs.FileSettings.{are_same}
+use Rattle.exh_load.specs.Opened.{OpenedState, settings_in}
 use Rattle.exh_world.specs.NewWorld.{world_of_wards}
-use Rattle.exh_settings.specs.Config.{file_settings}
-use Rattle.exh_settings.specs.declared.config.Config.{Config}
+use Rattle.exh_page.specs.Config.{file_settings}
+use Rattle.exh_page.specs.declared.config.Config.{Config}
 use Rattle.exh_script.specs.Text.{Beginning, new_file}
 use Rattle.exh_line.specs.declared.refusal.Refusal.TheVariants.{OtherFile}
 

@@ -16,9 +16,9 @@ use Rattle.exh_world.specs.WorldRun.{Told, answered_in, journal_entry_of}
 use Rattle.exh_world.specs.StepFunction.{result_of}
 use Rattle.exh_prefix.specs.Leading.{ward_of}
 use Rattle.exh_world.specs.World.{map_in, numbered}
-use Rattle.exh_settings.specs.declared.config.Config.{Config}
-use Rattle.exh_event.specs.declared.event.Event.TheVariants.{Begin, Hop}
-use Rattle.exh_event.specs.declared.turn.Turn.{Turn as StepTurn}
+use Rattle.exh_page.specs.declared.config.Config.{Config}
+use Rattle.exh_walk.specs.declared.event.Event.TheVariants.{Begin, Hop}
+use Rattle.exh_walk.specs.declared.turn.Turn.{Turn as StepTurn}
 use Rattle.exh_line.specs.LineAnswer.{answer_text, copy_text}
 use Rattle.exh_line.specs.Grammar.{line_of}
 use Rattle.exh_script.specs.Text.{ScriptWorld, Response, Said, line_response, response_text, after_line, new_file, settings_of, text_of, ended_of}

@@ -3,7 +3,7 @@ use Rattle.std.specs.Prelude.{◌≡◌, ℕ, List, slice_get, Some}
 use Rattle.exh_keyer.specs.declared.any_keyer.AnyKeyer.{AnyKeyer}
 use Rattle.exh_keyer.specs.Pseudokey.{any_pseudokey}
 use Rattle.exh_ward.specs.WardState.{WardState, IsSoundWard}
-use Rattle.exh_file.specs.Opened.{AreWardsOf, OpenedState}
+use Rattle.exh_load.specs.Opened.{AreWardsOf, OpenedState}
 use Rattle.exh_script.specs.AnyStart.{PrintsFrom}
 use Rattle.exh_script.specs.Text.{Beginning, ended_of}
 use Rattle.exh_script.specs.Left.{ended_with, left_of}

@@ -3,7 +3,7 @@ use Rattle.std.specs.Prelude.{◌≡◌, ◌⊎◌, ◌<◌, ◌≤◌, ℕ, Lis
 use Rattle.exh_keyer.specs.declared.any_keyer.AnyKeyer.{AnyKeyer}
 use Rattle.exh_text.specs.TextLines.{lines_of}
 use Rattle.exh_ward.specs.WardState.{WardState}
-use Rattle.exh_file.specs.Opened.{OpenedState}
+use Rattle.exh_load.specs.Opened.{OpenedState}
 use Rattle.exh_load.specs.LoadFault.{HasCountedFrom}
 use Rattle.exh_line.specs.RefusalText.{refusal_text}
 use Rattle.exh_script.specs.Text.{Beginning, ScriptWorld, Start, ended_of, text_after, text_of_lines, text_of}

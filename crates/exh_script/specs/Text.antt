@@ -9,8 +9,8 @@ use Rattle.exh_world.specs.NewWorld.{new_world}
 use Rattle.exh_world.specs.Step.{CountsFailure}
 use Rattle.exh_world.specs.StepFunction.{result_of, world_after}
 use Rattle.exh_world.specs.World.{WorldState}
-use Rattle.exh_settings.specs.declared.config.Config.{Config}
-use Rattle.exh_event.specs.declared.step_fault.StepFault.{StepFault}
+use Rattle.exh_page.specs.declared.config.Config.{Config}
+use Rattle.exh_walk.specs.declared.step_fault.StepFault.{StepFault}
 use Rattle.exh_line.specs.LineAnswer.{answer_text, step_answer}
 use Rattle.exh_text.specs.FileLine.{file_line_of}
 use Rattle.exh_line.specs.Grammar.{line_of}

@@ -5,8 +5,8 @@ use Rattle.exh_keyer.specs.declared.any_keyer.AnyKeyer.{AnyKeyer}
 use Rattle.exh_text.specs.Contents.{on_line}
 use Rattle.exh_text.specs.Printing.{place_text}
 use Rattle.exh_ward.specs.declared.ward_fault.WardFault.TheVariants.{NoPage}
-use Rattle.exh_event.specs.declared.step_fault.StepFault.{StepFault}
-use Rattle.exh_event.specs.declared.step_fault.StepFault.TheVariants.{NoCopy, NoWard, Ward}
+use Rattle.exh_walk.specs.declared.step_fault.StepFault.{StepFault}
+use Rattle.exh_walk.specs.declared.step_fault.StepFault.TheVariants.{NoCopy, NoWard, Ward}
 use Rattle.exh_line.specs.LineAnswer.{request_text}
 use Rattle.exh_line.specs.Shown.{page_text, shown_text}
 use Rattle.exh_line.specs.declared.view.View.{View}

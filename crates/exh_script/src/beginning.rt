@@ -7,12 +7,12 @@ ghost use Rattle.exh_script.specs.OpenedScript.{beginning, is_of_file, opened_fi
 ghost use Rattle.exh_world.specs.NewWorld.{settings_of};
 ghost use Rattle.exh_world.specs.Sound.{IsSoundWorld};
 
-use exh_file::Opened;
 use exh_keyer::AnyKeyer;
 use exh_line::Refusal;
-use exh_notes::Listener;
-use exh_settings::Config;
+use exh_load::Opened;
+use exh_page::Config;
 use exh_stores::{Pages, StoreMaker};
+use exh_text::Listener;
 use exh_world::World;
 use std::alloc::{AllocError, Global};
 

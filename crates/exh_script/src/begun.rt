@@ -4,7 +4,7 @@ ghost use Rattle.exh_calls.specs.declared.call.Call.TheVariants.{Get, Put, Del};
 ghost use Rattle.exh_keyer.specs.Pseudokey.{any_pseudokey};
 ghost use Rattle.exh_world.specs.Sound.{IsSoundWorld};
 ghost use Rattle.exh_script.specs.Text.{CountsPageFault, after_asked, after_line, line_response, response_text, response_to};
-ghost use Rattle.exh_event.specs.declared.event.Event.TheVariants.{Begin as BeginOf};
+ghost use Rattle.exh_walk.specs.declared.event.Event.TheVariants.{Begin as BeginOf};
 ghost use Rattle.exh_line.specs.CallWords.{call_of};
 ghost use Rattle.exh_line.specs.Grammar.{call_in_range, line_of};
 ghost use Rattle.exh_line.specs.LineStart.{IsStartOf};
@@ -16,11 +16,11 @@ ghost use Rattle.exh_line.specs.declared.line_start.LineStart.TheVariants.{Begin
 use crate::response::push_parsed;
 use crate::{ResponseFault, Run};
 use exh_calls::Call;
-use exh_event::{Outcome, StepFault};
 use exh_keyer::AnyKeyer;
 use exh_line::{BeginWords, CallWords, push_refusal, push_standing};
 use exh_stores::Pages;
 use exh_text::ByteWord;
+use exh_walk::{Outcome, StepFault};
 use exh_ward::WardFault;
 use exh_world::{page_faults_are_counted, steps_are_computed};
 

@@ -12,11 +12,9 @@ ghost use Rattle.exh_stream.specs.Output.{AppendsBeginning};
 ghost use Rattle.exh_text.specs.declared.script.TheConstants.{SCRIPT_LIMIT};
 
 use crate::{Ended, RunFault, ServeFault, done_runs_leave_wards, serve_over};
-use exh_file::Opened;
 use exh_frames::{FileStore, MAKER};
-use exh_load::LoadFault;
-use exh_notes::Silent;
-use exh_text::SCRIPT_LIMIT;
+use exh_load::{LoadFault, Opened};
+use exh_text::{SCRIPT_LIMIT, Silent};
 use std::alloc::Global;
 use std::io::{Read, Write};
 

@@ -1,7 +1,7 @@
 ghost use Rattle.std.specs.Prelude.{◌≡◌};
 ghost use Rattle.exh_script.specs.Left.{ended_with};
 
-use exh_file::Opened;
+use exh_load::Opened;
 use exh_stores::Pages;
 
 /// How the run of a script ended, its text being out.

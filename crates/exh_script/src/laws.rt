@@ -6,7 +6,7 @@ ghost use Rattle.exh_script.specs.Replies.{RepliesAreOneMaps};
 ghost use Rattle.exh_script.specs.Text.{new_file};
 
 use exh_keyer::AnyKeyer;
-use exh_route::runs_keep_wards_sound_and_one_map;
+use exh_walk::runs_keep_wards_sound_and_one_map;
 use exh_world::{
     new_worlds_are_sound, runs_carry_the_headline, steps_go_alike, steps_have_outcomes,
     steps_keep_worlds_sound,

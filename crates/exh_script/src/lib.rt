@@ -4,8 +4,9 @@
 
 pub use doors::{load, serve, serve_from};
 pub use ended::Ended;
-pub use exh_file::Opened;
-pub use exh_settings::Config;
+pub use exh_load::{OpenFault, Opened, SaveFault, open, open_over, read_file, write_file};
+pub use exh_page::Config;
+pub use exh_world::{Event, Outcome, StepFault, World};
 pub use laws::{
     lines_go_alike, lines_keep_settings, refused_lines_leave_the_others, replies_are_one_maps,
     replies_follow_any_start,

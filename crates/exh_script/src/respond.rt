@@ -14,13 +14,12 @@ ghost use Rattle.exh_world.specs.Sound.{IsSoundWorld};
 
 use crate::beginning::{begin, leave};
 use crate::{ResponseFault, Run, ServeFault, lines_keep_settings, push_response};
-use exh_file::Opened;
 use exh_keyer::AnyKeyer;
 use exh_line::{Refusal, push_refusal};
-use exh_notes::Listener;
+use exh_load::Opened;
 use exh_stores::{Pages, StoreMaker};
 use exh_stream::Output;
-use exh_text::{LineFault, Lines, Settings, parse_file_line};
+use exh_text::{LineFault, Lines, Listener, Settings, parse_file_line};
 use exh_world::steps_have_outcomes;
 use std::alloc::Global;
 use std::io::Write;

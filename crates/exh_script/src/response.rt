@@ -14,7 +14,6 @@ use crate::begun::push_begun;
 use crate::in_flight_text::push_in_flight;
 use crate::laws::lines_go_alike;
 use crate::{ResponseFault, Run};
-use exh_event::{Event, Outcome, StepFault};
 use exh_keyer::AnyKeyer;
 use exh_line::{
     Answer, Line, LineStart, ShortStep, View, parse_line, push_answer, push_outcome, push_page,
@@ -22,6 +21,7 @@ use exh_line::{
 };
 use exh_prefix::PageNo;
 use exh_stores::Pages;
+use exh_walk::{Event, Outcome, StepFault};
 use exh_ward::WardFault;
 use exh_world::{World, page_faults_are_counted, steps_are_computed};
 use std::alloc::AllocError;

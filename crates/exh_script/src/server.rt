@@ -7,13 +7,12 @@ ghost use Rattle.exh_stream.specs.Source.{SameReader, reader_failed, unread};
 
 use crate::ServeFault;
 use crate::respond::{refuse, respond};
-use exh_file::Opened;
 use exh_keyer::AnyKeyer;
 use exh_line::Refusal;
-use exh_notes::Listener;
+use exh_load::Opened;
 use exh_stores::{Pages, StoreMaker};
 use exh_stream::{InputFault, Output, Source};
-use exh_text::SCRIPT_LIMIT;
+use exh_text::{Listener, SCRIPT_LIMIT};
 use std::alloc::Global;
 use std::io::{Read, Write};
 

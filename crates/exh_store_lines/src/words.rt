@@ -1,7 +1,7 @@
 //! What single words stand for.
 
 use crate::line_fault::LineFault;
-use exh_settings::keyer_named;
+use exh_page::keyer_named;
 use exh_text::{ByteWord, parse_u32};
 use exhash::Settings;
 use std::alloc::Global;

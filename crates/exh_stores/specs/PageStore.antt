@@ -1,7 +1,7 @@
 -- A store of pages: what its calls leave of it.
-pub use Rattle.exh_page.specs.PageHead.{HasHead}
+pub use Rattle.exh_codec.specs.PageHead.{HasHead}
 use Rattle.std.specs.Prelude.{◌≡◌, ℕ, ◌<◌, ◌↔◌, List, slice_get, Some, Result, Ok, Err}
-use Rattle.exh_page.specs.declared.page.Page.{Page}
+use Rattle.exh_codec.specs.declared.Page.{Page}
 use Rattle.exh_stores.specs.declared.pages_fault.PagesFault.{PagesFault}
 use Rattle.exh_stores.specs.declared.pages_fault.PagesFault.TheVariants.{Memory, Page as OutOfReach}
 

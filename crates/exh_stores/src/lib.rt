@@ -2,6 +2,7 @@
 //! own).
 #![tactic(auto)]
 
+pub use exh_codec::BLOCK_LEN;
 pub use pages::Pages;
 pub use pages_fault::PagesFault;
 pub use plain_pages::PlainPages;

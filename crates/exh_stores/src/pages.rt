@@ -1,19 +1,17 @@
 ghost use Rattle.std.specs.Prelude.{◌≡◌, ◌≢◌, ℕ, ◌-◌, ◌^◌, ◌<◌, ◌≤◌, List, [], ◌∷◌, ◌++◌, length, remove, slice_get, slice_set, Some, IfOk, OnOk, OnErr};
-ghost use Rattle.exh_page.specs.Halves.{left_half, right_half, sent_to, union};
-ghost use Rattle.exh_page.specs.Lookup.{HasPseudokey, IsLookup};
-ghost use Rattle.exh_page.specs.Page.{IsDivisible, IsLive, records_of, with_records};
-ghost use Rattle.exh_page.specs.Records.{IsRising, with_record};
-ghost use Rattle.exh_page.specs.Search.{IsSpot, IsStood};
-ghost use Rattle.exh_page.specs.declared.page.Page.{Page};
-ghost use Rattle.exh_page.specs.declared.page.TheConstants.{CAP_LIMIT};
+ghost use Rattle.exh_codec.specs.Halves.{left_half, right_half, sent_to, union};
+ghost use Rattle.exh_codec.specs.Lookup.{HasPseudokey, IsLookup};
+ghost use Rattle.exh_codec.specs.Page.{IsDivisible, IsLive, records_of, with_records};
+ghost use Rattle.exh_codec.specs.Records.{IsRising, with_record};
+ghost use Rattle.exh_codec.specs.Search.{IsSpot, IsStood};
+ghost use Rattle.exh_codec.specs.declared.Page.{Page};
+ghost use Rattle.exh_codec.specs.PageLimits.{CAP_LIMIT};
 ghost use Rattle.exh_codec.specs.Block.{sealed};
 ghost use Rattle.exh_codec.specs.PageImage.{IsHeld, content_of};
 ghost use Rattle.exh_stores.specs.PageStore.{IfPage, HasHead, CountsFaults, TakesTheSame};
 
 use crate::PagesFault;
-use exh_codec::BLOCK_LEN;
-use exh_page::{Key, Lookup, Page, PageHead, Spot, Value};
-use exh_prefix::{PageNo, Prefix};
+use exh_codec::{BLOCK_LEN, Key, Lookup, Page, PageHead, PageNo, Prefix, Spot, Value};
 
 /// A store of pages, numbered from 0 on in the order in which they came. Each call
 /// that answers a `Result` may be refused: `PagesFault::Page` where a page couldn't be reached, which

@@ -2,10 +2,10 @@ ghost use Rattle.std.specs.Prelude.{◌≡◌, ◌^◌, ◌<◌, [], ◌∷◌, 
 
 use crate::stored_page::StoredPage;
 use crate::{Pages, PagesFault};
-use exh_codec::{BLOCK_LEN, ReadPages, digest_in};
-use exh_keyer::Keyer;
-use exh_page::{Key, Lookup, Page, PageHead, PageList, Spot, Value};
-use exh_prefix::{PageNo, Prefix};
+use exh_codec::{
+    BLOCK_LEN, Key, Keyer, Lookup, Page, PageHead, PageList, PageNo, Prefix, ReadPages, Spot,
+    Value, digest_in,
+};
 use std::alloc::{AllocError, Global};
 use std::marker::Model;
 
@@ -18,7 +18,7 @@ pub struct PlainPages {
 
 impl Model for PlainPages {
     ghost use Rattle.std.specs.Prelude.{◌^◌, ◌<◌, List, length};
-    ghost use Rattle.exh_page.specs.declared.page.Page.{Page};
+    ghost use Rattle.exh_codec.specs.declared.Page.{Page};
 
     ghost Value = { List Page };
 

@@ -1,11 +1,9 @@
 ghost use Rattle.std.specs.Prelude.{◌≡◌, [], ◌∷◌, IfOk};
-ghost use Rattle.exh_page.specs.declared.page.Page.{Page};
-ghost use Rattle.exh_page.specs.Page.{IsWellFormed};
+ghost use Rattle.exh_codec.specs.declared.Page.{Page};
+ghost use Rattle.exh_codec.specs.Page.{IsWellFormed};
 
 use crate::{Pages, PlainPages};
-use exh_codec::ReadPages;
-use exh_keyer::Keyer;
-use exh_page::Page;
+use exh_codec::{Keyer, Page, ReadPages};
 use std::alloc::{AllocError, Global};
 
 /// Makes stores of pages, all of one kind, for keyers of a type.

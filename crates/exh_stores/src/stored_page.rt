@@ -1,14 +1,13 @@
 ghost use Rattle.std.specs.Prelude.{◌≡◌, ◌<◌, ◌≤◌, length, remove, take, OnOk, OnErr};
-ghost use Rattle.exh_page.specs.declared.page.TheConstants.{CAP_LIMIT};
-ghost use Rattle.exh_page.specs.Page.{IsLive, records_of, with_records};
-ghost use Rattle.exh_page.specs.Records.{with_record};
-ghost use Rattle.exh_page.specs.Search.{IsSpot, IsStood};
+ghost use Rattle.exh_codec.specs.PageLimits.{CAP_LIMIT};
+ghost use Rattle.exh_codec.specs.Page.{IsLive, records_of, with_records};
+ghost use Rattle.exh_codec.specs.Records.{with_record};
+ghost use Rattle.exh_codec.specs.Search.{IsSpot, IsStood};
 ghost use Rattle.exh_codec.specs.declared.block.TheConstants.{CONTENT_LEN};
 ghost use Rattle.exh_codec.specs.Block.{sealed};
 ghost use Rattle.exh_codec.specs.PageImage.{IsHeld, content_of, page_digest};
 
-use exh_codec::{BLOCK_LEN, DIGEST_LEN, digest_of, lay_over, put_digest};
-use exh_page::{Key, Page, Spot, Value};
+use exh_codec::{BLOCK_LEN, DIGEST_LEN, Key, Page, Spot, Value, digest_of, lay_over, put_digest};
 use std::alloc::AllocError;
 use std::marker::Model;
 
@@ -20,7 +19,7 @@ pub(crate) struct StoredPage {
 }
 
 impl Model for StoredPage {
-    ghost use Rattle.exh_page.specs.declared.page.Page.{Page};
+    ghost use Rattle.exh_codec.specs.declared.Page.{Page};
     ghost use Rattle.exh_stores.specs.Digests.{IsKnownOf};
 
     ghost Value = { Page };

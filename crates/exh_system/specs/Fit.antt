@@ -1,6 +1,6 @@
 -- Which page files can be changed in place, as far as their names tell.
 use Rattle.std.specs.Prelude.{◌≤◌, ◌<◌, ℕ, ⊤, List, length}
-use Rattle.exh_disk.specs.Folder.{IsNameIn}
+use Rattle.exh_saving.specs.Folder.{IsNameIn}
 use Rattle.exh_system.specs.declared.in_place_fault.InPlaceFault.{InPlaceFault}
 use Rattle.exh_system.specs.declared.in_place_fault.InPlaceFault.TheVariants.{Journal, LongName, Memory, PartOfBlock, SecondName, System}
 

@@ -1,8 +1,8 @@
 -- What the first bytes of a page file of version 3 say.
 use Rattle.std.specs.Prelude.{◌≡◌, ℕ, List}
 use Rattle.byteorder.specs.Endian.{big_from}
-use Rattle.exh_format.specs.HeaderTests.{HasMagic, IsOfVersion}
-use Rattle.exh_cells.specs.StampedHeader.{placed_format}
+use Rattle.exh_direct.specs.HeaderTests.{HasMagic, IsOfVersion}
+use Rattle.exh_file.specs.StampedHeader.{placed_format}
 use Rattle.exh_system.specs.declared.front.Front.{Front}
 
 -- they are those of such a file, with these stamps

@@ -1,4 +1,9 @@
+pub use Rattle.exh_file.specs.Opened
+pub use Rattle.exh_direct.specs.DirectLaws
 pub mod Fault
 pub mod Fit
 pub mod Front
 pub mod SizeLimit
+pub mod Kind
+pub mod WardsFault
+pub mod SystemLimits

@@ -1,11 +1,11 @@
 -- The limit on the size of a file that a text of the system's tells, and how long a page file is.
 use Rattle.std.specs.Prelude.{◌≡◌, ◌<◌, ◌*◌, ℕ, ◌+◌, Bool, true, false, List, [], ◌∷◌, codes, drop, length, nat_eq, cond, Option, None}
 use Rattle.std.specs.List.{starts_with, sum}
-use Rattle.exh_text.specs.TextLines.{is_empty, newline, parts_at, space}
-use Rattle.exh_text.specs.Numbers.{index_spelled}
-use Rattle.exh_format.specs.declared.header.Header.{Header}
-use Rattle.exh_format.specs.PageFile.{table_blocks}
-use Rattle.exh_cells.specs.Places.{end_block_of}
+use Rattle.exh_file.specs.TextLines.{is_empty, newline, parts_at, space}
+use Rattle.exh_file.specs.Numbers.{index_spelled}
+use Rattle.exh_direct.specs.declared.Header.{Header}
+use Rattle.exh_direct.specs.PageFile.{table_blocks}
+use Rattle.exh_file.specs.Places.{end_block_of}
 use Rattle.exh_codec.specs.declared.block.TheConstants.{BLOCK_LEN}
 use Rattle.exh_system.specs.declared.size_limit.AboveLimit.{AboveLimit}
 

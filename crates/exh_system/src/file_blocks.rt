@@ -1,10 +1,9 @@
 //! The blocks of a file of the system, each read at its place.
 ghost use Rattle.std.specs.Prelude.{None};
 
-use crate::{Reason, with_reason};
+use crate::{Reason, open_above, with_reason};
 use exh_codec::BLOCK_LEN;
 use exh_direct::Blocks;
-use exh_path::open_above;
 use std::fs::File;
 use std::os::unix::fs::FileExt;
 use std::{fs, io};

@@ -5,7 +5,7 @@ ghost use Rattle.exh_system.specs.Fit.{HasShortName, IsUnfit};
 use crate::page_log::tells_of_none;
 use crate::{InPlaceFault, PageLog};
 use exh_codec::BLOCK_LEN;
-use exh_disk::file_name_of;
+use exh_saving::file_name_of;
 use std::fs::File;
 use std::io::ErrorKind;
 use std::os::unix::fs::MetadataExt;

@@ -30,6 +30,21 @@ pub enum InPlaceFault {
     /// A journal stands beside the file, as SQLite makes one.
     #[error("a journal stands beside it, of the same name with -journal behind it")]
     Journal,
+    /// What stands at the log's name is no log of a page file, nor one that was begun.
+    #[error("what stands beside it, of the same name with -wal behind it, is no log of exhash: move it")]
+    NoLog,
+    /// The log has a second name.
+    #[error("the log beside it, of the same name with -wal behind it, has a second name (a hard link)")]
+    LogNames,
+    /// The system lets the log not be read and written.
+    #[error("the log beside it, of the same name with -wal behind it, may not be read and written")]
+    LogDenied,
+    /// The system lets no log be made in the file's folder.
+    #[error("its folder lets no log be made there, of the same name with -wal behind it")]
+    FolderDenied,
+    /// A new file would have the name of the log of the page file beside it.
+    #[error("its name is that of the log of the page file beside it: choose another one")]
+    LogName,
     /// The log beside the file has changes of another file.
     #[error("the log beside it, of the same name with -wal behind it, is another file's: remove it")]
     OthersLog,

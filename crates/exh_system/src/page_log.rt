@@ -4,9 +4,15 @@ ghost use Rattle.std.specs.IoError.{error_kind};
 ghost use Rattle.std.specs.declared.io.ErrorKind.TheVariants.{OutOfMemory};
 ghost use Rattle.exh_system.specs.Fault.{TellsOfNone};
 
+use crate::front::begins_as_page_file;
+use crate::{InPlaceFault, open_regular};
+use std::fs::OpenOptions;
 use std::io::ErrorKind;
+use std::os::unix::fs::MetadataExt;
 use std::{fs, io};
 
+// What stands behind the name of a page file in that of its log.
+const SUFFIX: &str = "-wal";
 // A log of fewer bytes has no change: its header, and what shuts it.
 const LEAST: u64 = 56;
 
@@ -45,6 +51,20 @@ impl PageLog {
         }
     }
 
+    /// Why the page file of a path and its log aren't opened, of which the system says this.
+    pub fn unopened(&self, rt: &HostRuntime, whole: &str, error: io::Error) -> InPlaceFault {
+        let is_denied = error.kind() == ErrorKind::PermissionDenied;
+        match fs::symlink_metadata(rt, self.path.as_str()) {
+            Ok(about) if !about.is_file() => InPlaceFault::NoLog,
+            Ok(about) if about.nlink() != 1 => InPlaceFault::LogNames,
+            Ok(_) if is_denied && !is_open_to(rt, &self.path) => InPlaceFault::LogDenied,
+            Err(none) if is_denied && tells_of_none(&none) && is_open_to(rt, whole) => {
+                InPlaceFault::FolderDenied
+            }
+            _ => InPlaceFault::from(error),
+        }
+    }
+
     /// Removes the log, if one is there. Only who has the writers' lock may, once the file alone has what the log has.
     ///
     /// An error: the system doesn't remove it.
@@ -54,6 +74,28 @@ impl PageLog {
             removed => removed,
         }
     }
+}
+
+/// Whether a path has the name of the log of a page file that stands beside it.
+///
+/// An error: the system doesn't give the first bytes of what stands there.
+pub fn is_name_of_log(rt: &HostRuntime, path: &str) -> io::Result<bool> {
+    let Some(beside) = path.strip_suffix(SUFFIX) else {
+        return Ok(false);
+    };
+    match open_regular(rt, beside) {
+        Ok(file) => begins_as_page_file(&file),
+        Err(_) => Ok(false),
+    }
+}
+
+// Whether what is at a path may be read and written.
+fn is_open_to(rt: &HostRuntime, path: &str) -> bool {
+    OpenOptions::new()
+        .read(true)
+        .write(true)
+        .open(rt, path)
+        .is_ok()
 }
 
 /// Whether an error of the system tells that nothing is under a name: it is free, or too long for any file.

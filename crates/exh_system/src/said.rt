@@ -1,7 +1,7 @@
 //! What the program says on standard error of a run.
 ghost use Rattle.std.specs.Prelude.{◌≡◌};
 
-use exh_notes::Escaped;
+use exh_file::Escaped;
 use std::cell::Cell;
 use std::io;
 

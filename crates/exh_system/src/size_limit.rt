@@ -4,11 +4,10 @@ ghost use Rattle.std.specs.List.{sum};
 ghost use Rattle.exh_codec.specs.declared.block.TheConstants.{BLOCK_LEN};
 ghost use Rattle.exh_system.specs.SizeLimit.{IsAbove, blocks_told, first_word, len_told, limit_told, placed_blocks};
 
-use exh_cells::GROUP_PAGES;
+use crate::open_above;
 use exh_codec::BLOCK_LEN;
-use exh_format::{BLOCK_ENTRIES, Header};
-use exh_path::open_above;
-use exh_text::{Parts, parse_u64};
+use exh_direct::{BLOCK_ENTRIES, Header};
+use exh_file::{GROUP_PAGES, Parts, parse_u64};
 use std::io::Read;
 use std::{fs, io};
 use thiserror::Error;

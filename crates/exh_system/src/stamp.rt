@@ -1,7 +1,7 @@
 //! Stamps of page files of version 3.
 
+use crate::open_above;
 use byteorder::{BigEndian, ByteOrder};
-use exh_path::open_above;
 use std::io;
 use std::io::Read;
 

@@ -2,8 +2,7 @@
 ghost use Rattle.std.specs.Prelude.{IfErr};
 ghost use Rattle.exh_system.specs.Fault.{IsLockFault};
 
-use crate::InPlaceFault;
-use exh_path::{LockWay, lock_within};
+use crate::{InPlaceFault, LockWay, lock_within};
 use std::fs::File;
 use std::io::ErrorKind;
 

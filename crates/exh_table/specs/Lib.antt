@@ -1,3 +1,8 @@
+pub use Rattle.exh_notice.specs.Entry
+pub use Rattle.exh_notice.specs.ImageLemmas
+pub use Rattle.exh_notice.specs.NoticeByteLemmas
+pub use Rattle.exh_notice.specs.NoticeImages
+pub use Rattle.exh_notice.specs.NoticeLimits
 pub mod Table
 pub mod TableOrder
 pub mod TableWalk

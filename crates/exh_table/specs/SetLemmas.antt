@@ -12,7 +12,7 @@ use Rattle.std.proofs.lemmas.List.Elements.{Contains-append_left, Contains-appen
 use Rattle.exh_prefix.specs.Prefix.{prefix_cmp}
 use Rattle.exh_prefix.specs.PrefixLemmas.{prefix_cmp-total}
 use Rattle.exh_prefix.specs.PrefixListLemmas.{first_part, second_part}
-use Rattle.exh_join.specs.Greater.{IsUpTo}
+use Rattle.exh_notice.specs.Greater.{IsUpTo}
 use Rattle.exh_notice.specs.declared.entry.Entry.{Entry}
 use Rattle.exh_notice.specs.declared.notice.Notice.{Notice}
 use Rattle.exh_notice.specs.Entry.{entry_cmp, entry_of, greater_entry}

@@ -4,7 +4,7 @@ use Rattle.std.specs.Coded.{Coded, coded_list, coded_bool}
 use Rattle.std.specs.FinMap.{FinMap, code, entries, get, insert, remove}
 use Rattle.std.specs.Option.{option_map_or}
 use Rattle.exh_prefix.specs.Prefix.{prefix_cmp}
-use Rattle.exh_join.specs.Greater.{IsUpTo}
+use Rattle.exh_notice.specs.Greater.{IsUpTo}
 use Rattle.exh_notice.specs.declared.entry.Entry.{Entry}
 use Rattle.exh_notice.specs.declared.entry.Kind.{Kind}
 use Rattle.exh_notice.specs.declared.notice.Notice.{Notice}

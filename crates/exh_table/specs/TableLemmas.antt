@@ -8,8 +8,8 @@ use Rattle.std.specs.Ordering.{is_lt, eq_by_cmp, nat_cmp}
 use Rattle.exh_prefix.specs.Prefix.{prefix_cmp}
 use Rattle.exh_prefix.specs.PrefixLemmas.{prefix_cmp-total, prefix_cmp-exact}
 use Rattle.exh_prefix.specs.PrefixListLemmas.{is_equal}
-use Rattle.exh_join.specs.JoinLaws.{IsPartialOrder, IsLeastAboveBoth, JoinLaws}
-use Rattle.exh_join.specs.LawsLemmas.{join_laws}
+use Rattle.exh_notice.specs.JoinLaws.{IsPartialOrder, IsLeastAboveBoth, JoinLaws}
+use Rattle.exh_notice.specs.LawsLemmas.{join_laws}
 use Rattle.exh_notice.specs.declared.entry.Entry.{Entry}
 use Rattle.exh_notice.specs.Entry.{entry_cmp}
 use Rattle.exh_notice.specs.EntryLemmas.{entry_laws}

@@ -1,7 +1,7 @@
 -- The order of tables and their join.
 use Rattle.std.specs.Prelude.{⊤, Bool, List, map, ◌++◌, Option, Some, None}
 use Rattle.std.specs.FinMap.{entries, from_entries, get}
-use Rattle.exh_join.specs.Greater.{IsUpTo}
+use Rattle.exh_notice.specs.Greater.{IsUpTo}
 use Rattle.exh_notice.specs.declared.entry.Entry.{Entry}
 use Rattle.exh_notice.specs.Entry.{entry_cmp}
 use Rattle.exh_table.specs.Table.{TableMap, greater_of}

@@ -3,7 +3,7 @@ ghost use Rattle.exh_table.specs.TableOrder.{IsTableUpTo, table_join};
 ghost use Rattle.exh_table.specs.TableLemmas.{table_laws};
 
 use crate::table::Table;
-use exh_join::Join;
+use exh_notice::Join;
 use std::alloc::AllocError;
 
 impl Join for Table {

@@ -7,3 +7,4 @@ pub mod Cuts
 -- of what is printed
 pub mod Printed
 pub mod Digits
+pub mod PartLemmas

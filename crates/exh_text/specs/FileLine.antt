@@ -3,14 +3,14 @@ use Rattle.std.specs.Prelude.{ℕ, List, [], ◌∷◌, Bool, true, false, ◌&&
 use Rattle.std.specs.Int.{is_in_range}
 use Rattle.std.specs.Str.{bytes_eq}
 use Rattle.exh_keyer.specs.declared.any_keyer.AnyKeyer.{AnyKeyer}
-use Rattle.exh_settings.specs.Keyers.{keyer_named}
+use Rattle.exh_page.specs.Keyers.{keyer_named}
 use Rattle.exh_page.specs.declared.page.TheConstants.{CAP_LIMIT}
 use Rattle.exh_prefix.specs.declared.prefix.TheConstants.{WARD_BITS_LIMIT}
 use Rattle.exh_text.specs.LineFault.{ranged}
 use Rattle.exh_text.specs.TextLines.{words_of}
 use Rattle.exh_text.specs.Numbers.{◌>>=◌, after_prefix, number_after}
 use Rattle.exh_text.specs.declared.line_fault.LineFault.{LineFault}
-use Rattle.exh_settings.specs.declared.config.Config.{Config}
+use Rattle.exh_page.specs.declared.config.Config.{Config}
 use Rattle.exh_text.specs.declared.file_line.TheConstants.{COPIES_LIMIT}
 use Rattle.exh_text.specs.declared.settings.Settings.{Settings}
 

@@ -7,3 +7,11 @@ pub mod Contents
 pub mod LineFault
 pub mod TextLemmas
 pub mod FileLine
+pub mod Kind
+pub mod Note
+pub mod Expect
+pub mod WrongWord
+pub mod Texts
+pub mod Tally
+pub mod ReasonReader
+pub mod ReasonWriter

@@ -4,9 +4,8 @@ ghost use Rattle.exh_text.specs.FileLine.{file_line_of, keyer_of, settings_in_ra
 
 use crate::{LineFault, Parts, Settings, parse_u32_after, split_words};
 use exh_keyer::AnyKeyer;
-use exh_page::CAP_LIMIT;
+use exh_page::{CAP_LIMIT, Config, keyer_named};
 use exh_prefix::WARD_BITS_LIMIT;
-use exh_settings::{Config, keyer_named};
 
 /// The most copies of the directory that a file has.
 pub const COPIES_LIMIT: u32 = 8;

@@ -1,5 +1,5 @@
 use exh_keyer::AnyKeyer;
-use exh_settings::Config;
+use exh_page::Config;
 
 /// What the first line of a script says: the settings of its file, and whether a reply's line tells the moves of its
 /// request.

@@ -9,9 +9,9 @@ use Rattle.std.proofs.lemmas.Bool.Decides.{nat_tests}
 use Rattle.std.proofs.lemmas.Fmt.{digits_decimal}
 use Rattle.std.proofs.lemmas.List.Elements.{All-from_recursion}
 use Rattle.std.proofs.lemmas.Str.Parse.{IsNumeralModel, numerals_by_value, tells_all_ascii_digits}
-use Rattle.exh_csv.specs.declared.place.Place.{Place}
-use Rattle.exh_csv.specs.declared.place.Place.TheVariants.{Start, Plain, Quoted, Closed}
-use Rattle.exh_csv.specs.Places.{AreQuoted, comma, newline, place_after, place_behind, quote}
+use Rattle.exh_pair_text.specs.declared.place.Place.{Place}
+use Rattle.exh_pair_text.specs.declared.place.Place.TheVariants.{Start, Plain, Quoted, Closed}
+use Rattle.exh_pair_text.specs.Places.{AreQuoted, comma, newline, place_after, place_behind, quote}
 use Rattle.exh_text.specs.TextLemmas.{number_again}
 use Rattle.exh_pair_text.specs.declared.line.Line.TheVariants.{Opening, End}
 use Rattle.exh_pair_text.specs.declared.pair_format.PairFormat.{PairFormat}

@@ -1,8 +1,8 @@
 -- The first newline outside of quotes ends a line: it is at one place.
 use Rattle.std.proofs.Common.{◌≡◌, ◌≢◌, ℕ, List, [], ◌∷◌, ◌++◌, refl, sym, ap, ap₂, ◌∙◌, subst}
-use Rattle.exh_csv.specs.declared.place.Place.{Place}
-use Rattle.exh_csv.specs.declared.place.Place.TheVariants.{Start, Quoted}
-use Rattle.exh_csv.specs.Places.{AreQuoted, newline, place_behind}
+use Rattle.exh_pair_text.specs.declared.place.Place.{Place}
+use Rattle.exh_pair_text.specs.declared.place.Place.TheVariants.{Start, Quoted}
+use Rattle.exh_pair_text.specs.Places.{AreQuoted, newline, place_behind}
 
 abbrev first_of : List ℕ → ℕ
 first_of [] = 0

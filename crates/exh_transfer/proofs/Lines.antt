@@ -1,7 +1,7 @@
 -- Lines behind what stood there.
 use Rattle.std.proofs.Common.{◌≡◌, ◌∙◌, ℕ, Bool, List, [], ◌∷◌, ◌++◌, ap, append_assoc, flat_map, refl, subst, Option, Result}
 use Rattle.std.specs.Prelude.{IfOk}
-use Rattle.exh_answer.specs.declared.status.Status.{Status}
+use Rattle.exh_run.specs.declared.Status.{Status}
 use Rattle.exh_run.specs.Ends.{Ends, EndsText, Says}
 use Rattle.exh_run.specs.LineLemmas.{next_line}
 use Rattle.exh_run.specs.SaidLemmas.{said}

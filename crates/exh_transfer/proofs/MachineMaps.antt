@@ -3,13 +3,13 @@ use Rattle.std.proofs.Common.{ℕ, zero, suc, List, [], ◌∷◌, Option, Some,
 use Rattle.exh_keyer.specs.Pseudokey.{any_pseudokey}
 use Rattle.exh_keyer.specs.declared.any_keyer.AnyKeyer.{AnyKeyer}
 use Rattle.exh_page.specs.KeyMap.{KeyMap}
-use Rattle.exh_settings.specs.declared.file_settings.FileSettings.{FileSettings}
+use Rattle.exh_page.specs.declared.file_settings.FileSettings.{FileSettings}
 use Rattle.exh_calls.specs.MapMachine.{map_after}
 use Rattle.exh_calls.specs.declared.call.Call.TheVariants.{Put}
 use Rattle.exh_import.specs.declared.imported_store.Added.{Added}
 use Rattle.exh_import.specs.Pairs.{ArePut, AreSaved}
-use Rattle.exh_file.specs.FileChange.{HasMap}
-use Rattle.exhash.specs.declared.store.Store.{Store}
+use Rattle.exh_compact.specs.FileChange.{HasMap}
+use Rattle.exh_run.specs.declared.Store.{Store}
 use Rattle.exh_transfer.specs.Imports.{IsAddedTo, KeepsPairs}
 use Rattle.exh_transfer.specs.Laws.{HoldsOneMap, IsLeftAlone, IsOfMap, PutsLeaveTheMachinesMap, map_with}
 

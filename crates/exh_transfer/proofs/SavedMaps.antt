@@ -28,14 +28,14 @@ use Rattle.exh_format.specs.LegalFileLemmas.{count_of_wards, few_bits}
 use Rattle.exh_format.specs.PageFile.{IsKnownFile, PageFile, pages_of}
 use Rattle.exh_cells.specs.LegalPlaced.{IsLegalPlacedFile, pages_of_ward, wards_of}
 use Rattle.exh_cells.specs.PlacedFile.{PlacedFile}
-use Rattle.exh_versions.specs.LegalBytes.{IsLegalBytes, IsLegalPlacedOf, SaysPlaced}
-use Rattle.exh_versions.specs.VersionLaws.{LegalBytesAreFiles}
-use Rattle.exh_versions.specs.VersionLemmas.{says_plain}
+use Rattle.exh_compact.specs.LegalBytes.{IsLegalBytes, IsLegalPlacedOf, SaysPlaced}
+use Rattle.exh_compact.specs.VersionLaws.{LegalBytesAreFiles}
+use Rattle.exh_compact.specs.VersionLemmas.{says_plain}
 use Rattle.exh_ward.specs.WardState.{WardState}
-use Rattle.exh_file.specs.FileChange.{HasMap}
-use Rattle.exh_file.specs.Opened.{AreWardsOf, OpenedState}
-use Rattle.exh_file.specs.Opening.{IsOpenedFile}
-use Rattle.exh_file.specs.Saved.{pages_of_all}
+use Rattle.exh_compact.specs.FileChange.{HasMap}
+use Rattle.exh_compact.specs.Opened.{AreWardsOf, OpenedState}
+use Rattle.exh_compact.specs.Opening.{IsOpenedFile}
+use Rattle.exh_compact.specs.Saved.{pages_of_all}
 use Rattle.exh_map.specs.Pairs.{AreOnce, pairs_in}
 use Rattle.exh_map.proofs.AgainLemmas.{all_pairs as pairs_of_wards}
 use Rattle.exh_map.proofs.OnceLemmas.{has_all, wards_once}

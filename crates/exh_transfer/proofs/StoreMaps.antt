@@ -11,10 +11,10 @@ use Rattle.exh_import.specs.declared.imported_store.Added.{Added}
 use Rattle.exh_import.specs.declared.imported_store.Added.TheVariants as added
 use Rattle.exh_import.specs.declared.options.ImportOptions.{ImportOptions}
 use Rattle.exh_import.specs.declared.rejection.Rejection.{Rejection}
-use Rattle.exh_file.specs.FileChange.{HasMap}
+use Rattle.exh_compact.specs.FileChange.{HasMap}
 use Rattle.exh_map.specs.Answers.{put_said}
 use Rattle.exh_map.specs.declared.put.Put.{Put as PutAnswer}
-use Rattle.exhash.specs.declared.store.Store.{Store}
+use Rattle.exh_run.specs.declared.Store.{Store}
 use Rattle.exh_transfer.specs.Imports.{IsAddedTo, KeepsPairs, added_of}
 use Rattle.exh_transfer.specs.Laws.{ExportsGiveTheirMap, HasMapHeld, IsAlone}
 use Rattle.exh_transfer.proofs.Filled.{filled}

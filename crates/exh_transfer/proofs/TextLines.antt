@@ -1,7 +1,7 @@
 -- A text has one list of lines.
 use Rattle.std.proofs.Common.{◌≡◌, ℕ, List, [], ◌∷◌, ◌++◌, length, inl, inr, refl, sym, ap, ◌∙◌, subst, append_assoc, length-append, arith}
-use Rattle.exh_csv.specs.declared.place.Place.TheVariants.{Start}
-use Rattle.exh_csv.specs.Places.{AreQuoted, newline}
+use Rattle.exh_pair_text.specs.declared.place.Place.TheVariants.{Start}
+use Rattle.exh_pair_text.specs.Places.{AreQuoted, newline}
 use Rattle.exh_pair_text.specs.Records.{place_by}
 use Rattle.exh_pair_text.specs.declared.pair_format.PairFormat.{PairFormat}
 use Rattle.exh_import.specs.Causes.{AreWholeLines, IsWholeLine, whole_line, whole_lines}

@@ -1,7 +1,7 @@
 -- Some text that a command ends with.
 use Rattle.std.proofs.Common.{ℕ, Bool, List, [], Option, Result, Ok, Err, inl, inr}
-use Rattle.exh_answer.specs.declared.status.Status.{Status}
-use Rattle.exh_answer.specs.declared.status.Status.TheVariants.{Done}
+use Rattle.exh_run.specs.declared.Status.{Status}
+use Rattle.exh_run.specs.declared.Status.TheVariants.{Done}
 use Rattle.exh_run.specs.Ends.{EndsText}
 use Rattle.exh_transfer.specs.Counts.{SaysText}
 

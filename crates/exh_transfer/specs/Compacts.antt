@@ -1,7 +1,7 @@
 -- What a compact prints, and how it ends.
 use Rattle.std.specs.Prelude.{ℕ, Bool, List, ◌++◌, codes, decimal, Option, Result, Ok, Err}
-use Rattle.exh_answer.specs.declared.status.Status.{Status}
-use Rattle.exh_answer.specs.declared.status.Status.TheVariants.{Done, Missing}
+use Rattle.exh_run.specs.declared.Status.{Status}
+use Rattle.exh_run.specs.declared.Status.TheVariants.{Done, Missing}
 use Rattle.exh_compact.specs.declared.compaction.CompactCounts.{CompactCounts}
 use Rattle.exh_compact.specs.declared.compaction.CompactOutcome.{CompactOutcome}
 use Rattle.exh_compact.specs.declared.compaction.CompactOutcome.TheVariants as compacted

@@ -1,10 +1,10 @@
 -- What a `stats` prints, and how it ends.
 use Rattle.std.specs.Prelude.{ℕ, Bool, List, Option, Result, Ok, Err}
-use Rattle.exh_answer.specs.declared.status.Status.{Status}
-use Rattle.exh_answer.specs.declared.status.Status.TheVariants.{Done}
+use Rattle.exh_run.specs.declared.Status.{Status}
+use Rattle.exh_run.specs.declared.Status.TheVariants.{Done}
 use Rattle.exh_map.specs.declared.store_error.StoreError.{StoreError}
 use Rattle.exh_run.specs.Ends.{Ends, Says, Silent, reading_status}
-use Rattle.exh_stats.specs.declared.stats.Stats.{Stats}
+use Rattle.exh_compact.specs.declared.stats.Stats.{Stats}
 
 -- some text is printed
 abbrev pub SaysText : Option (List ℕ) → Option (List ℕ) → Bool → Status → Type 0

@@ -1,16 +1,16 @@
 -- What an import prints, and how it ends.
 use Rattle.std.specs.Prelude.{◌≡◌, ◌+◌, ◌==◌, ◌&&◌, ℕ, Bool, List, ◌++◌, codes, decimal, min, Option, Some, None, is_some, Result, Ok, Err, IsTrue, if◌then◌else◌}
-use Rattle.exh_answer.specs.declared.status.Status.{Status}
-use Rattle.exh_answer.specs.declared.status.Status.TheVariants.{Done, Missing, Partly, Refused}
-use Rattle.exh_file.specs.Opened.{OpenedState, settings_in}
+use Rattle.exh_run.specs.declared.Status.{Status}
+use Rattle.exh_run.specs.declared.Status.TheVariants.{Done, Missing, Partly, Refused}
+use Rattle.exh_compact.specs.Opened.{OpenedState, settings_in}
 use Rattle.exh_import.specs.declared.imported_store.Added.{Added}
 use Rattle.exh_import.specs.declared.imported_store.Added.TheVariants as added
 use Rattle.exh_import.specs.declared.imported.Imported.{Imported}
 use Rattle.exh_map.specs.FileMap.{IsPut, KeepsMap}
 use Rattle.exh_map.specs.declared.put.Put.{Put}
 use Rattle.exh_map.specs.declared.store_error.StoreError.{StoreError}
-use Rattle.exhash.specs.Store.{IsHeld}
-use Rattle.exhash.specs.declared.store.Store.{Store}
+use Rattle.exh_run.specs.Store.{IsHeld}
+use Rattle.exh_run.specs.declared.Store.{Store}
 use Rattle.exh_map.specs.declared.put.Put.TheVariants as put
 use Rattle.exh_text.specs.Contents.{on_line}
 use Rattle.exh_run.specs.Ends.{Ended, Ends, Says, Silent, change_status, unmade_status}

@@ -4,7 +4,7 @@ use Rattle.std.specs.FinMap.{empty, from_entries}
 use Rattle.exh_keyer.specs.Pseudokey.{any_pseudokey}
 use Rattle.exh_keyer.specs.declared.any_keyer.AnyKeyer.{AnyKeyer}
 use Rattle.exh_page.specs.KeyMap.{KeyMap}
-use Rattle.exh_settings.specs.declared.file_settings.FileSettings.{FileSettings}
+use Rattle.exh_page.specs.declared.file_settings.FileSettings.{FileSettings}
 use Rattle.exh_calls.specs.MapMachine.{map_after}
 use Rattle.exh_calls.specs.declared.call.Call.TheVariants.{Put}
 use Rattle.exh_pair_text.specs.Laws.{IsPair}
@@ -15,10 +15,10 @@ use Rattle.exh_import.specs.declared.options.ImportOptions.{ImportOptions}
 use Rattle.exh_import.specs.declared.rejection.Rejection.{Rejection}
 use Rattle.exh_import.specs.Imports.{Imports, IsTextOf}
 use Rattle.exh_import.specs.Pairs.{ArePut, pairs_put}
-use Rattle.exh_file.specs.FileChange.{HasMap}
-use Rattle.exh_file.specs.Opened.{settings_in}
+use Rattle.exh_compact.specs.FileChange.{HasMap}
+use Rattle.exh_compact.specs.Opened.{settings_in}
 use Rattle.exh_map.specs.Pairs.{AreOnce}
-use Rattle.exhash.specs.declared.store.Store.{Store}
+use Rattle.exh_run.specs.declared.Store.{Store}
 use Rattle.exh_transfer.specs.Exports.{export_text}
 use Rattle.exh_transfer.specs.Imports.{IsAddedTo, KeepsPairs}
 

@@ -16,10 +16,10 @@ use Rattle.exh_format.specs.LegalFile.{IsLegalPageFile}
 use Rattle.exh_format.specs.PageFile.{PageFile, pages_of}
 use Rattle.exh_cells.specs.LegalPlaced.{IsLegalPlacedFile}
 use Rattle.exh_cells.specs.PlacedFile.{PlacedFile}
-use Rattle.exh_versions.specs.LegalBytes.{IsLegalBytes, SaysPlaced}
-use Rattle.exh_file.specs.FileChange.{HasMap}
-use Rattle.exh_file.specs.Opened.{OpenedState}
-use Rattle.exh_file.specs.Opening.{IsOpenedFile}
+use Rattle.exh_compact.specs.LegalBytes.{IsLegalBytes, SaysPlaced}
+use Rattle.exh_compact.specs.FileChange.{HasMap}
+use Rattle.exh_compact.specs.Opened.{OpenedState}
+use Rattle.exh_compact.specs.Opening.{IsOpenedFile}
 use Rattle.exh_map.specs.Pairs.{AreOnce}
 
 -- all blocks of the bytes were gone through, and each could be read

@@ -1,7 +1,7 @@
 -- What a salvage prints, and how it ends.
 use Rattle.std.specs.Prelude.{◌==◌, ℕ, Bool, true, false, List, ◌++◌, flat_map, length, Option, Result, Ok, Err, if◌then◌else◌}
-use Rattle.exh_answer.specs.declared.status.Status.{Status}
-use Rattle.exh_answer.specs.declared.status.Status.TheVariants.{Done, Partly}
+use Rattle.exh_run.specs.declared.Status.{Status}
+use Rattle.exh_run.specs.declared.Status.TheVariants.{Done, Partly}
 use Rattle.exh_map.specs.declared.store_error.StoreError.{StoreError}
 use Rattle.exh_pair_text.specs.Lines.{end_line, opening_line, pair_line}
 use Rattle.exh_pair_text.specs.declared.pair_format.PairFormat.{PairFormat}

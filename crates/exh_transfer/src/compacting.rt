@@ -1,17 +1,15 @@
 //! The run of a compact.
 ghost use Rattle.std.specs.Prelude.{◌≡◌, [], IfOk, IsFalse};
 ghost use Rattle.exh_stream.specs.Output.{SameWriter, held, pending, writer_failed};
-ghost use Rattle.exh_answer.specs.declared.status.Status.TheVariants.{Done};
+ghost use Rattle.exh_run.specs.declared.Status.TheVariants.{Done};
 ghost use Rattle.exh_run.specs.Ends.{Ends, Says};
 ghost use Rattle.exh_transfer.specs.Compacts.{CompactEnds, compact_ended, compact_line};
 
-use exh_answer::Status;
 use exh_compact::{CompactCounts, CompactOptions, CompactOutcome};
 use exh_request::GivenSettings;
-use exh_run::{Run, refuse_change, tell_full, tell_refused, tell_text};
+use exh_run::{Run, Status, StoreError, refuse_change, tell_full, tell_refused, tell_text};
 use exh_stream::Output;
 use exh_text::{push_number, push_text};
-use exhash::StoreError;
 use std::alloc::{AllocError, Global};
 use std::io::Write;
 

@@ -3,11 +3,9 @@ ghost use Rattle.std.specs.Prelude.{◌≡◌, [], IsFalse};
 ghost use Rattle.exh_stream.specs.Output.{SameWriter, held, pending, writer_failed};
 ghost use Rattle.exh_transfer.specs.Counts.{SaysText, StatsEnd, StatsEnds};
 
-use exh_answer::Status;
-use exh_run::{Run, refuse_reading, tell_text};
-use exh_stats::{Stats, json_of, stats_at, text_of};
+use exh_compact::{Stats, json_of, stats_at, text_of};
+use exh_run::{Run, Status, StoreError, refuse_reading, tell_text};
 use exh_stream::Output;
-use exhash::StoreError;
 use std::alloc::{AllocError, Global};
 use std::io::Write;
 

@@ -3,14 +3,12 @@ ghost use Rattle.std.specs.Prelude.{◌≡◌, ◌++◌, [], flat_map, IfOk, IsF
 ghost use Rattle.exh_stream.specs.Output.{SameWriter, held, pending, writer_failed};
 ghost use Rattle.exh_run.specs.Ends.{Ends, Says};
 ghost use Rattle.exh_transfer.specs.Exports.{ExportEnds, export_ended, export_text, line_of_pair};
-ghost use Rattle.exh_answer.specs.declared.status.Status.TheVariants.{Done};
+ghost use Rattle.exh_run.specs.declared.Status.TheVariants.{Done};
 
-use exh_answer::Status;
 use exh_page::{Key, Value};
 use exh_pair_text::{PairFormat, push_end, push_opening, push_pair};
-use exh_run::{Run, refuse_reading, tell_text};
+use exh_run::{Pairs, Run, Status, Store, StoreError, refuse_reading, tell_text};
 use exh_stream::Output;
-use exhash::{Pairs, Store, StoreError};
 use std::alloc::{AllocError, Global};
 use std::io::Write;
 

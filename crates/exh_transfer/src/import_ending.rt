@@ -6,16 +6,12 @@ ghost use Rattle.exh_transfer.specs.Imports.{done_ended, import_ended, import_li
 
 use crate::import_refusal::ImportRefusal;
 use crate::outcome::Outcome;
-use exh_answer::Status;
 use exh_import::{ImportFault, Imported};
-use exh_notes::Escaped;
 use exh_pair_text::{Field, WrongHeader};
 use exh_request::GivenTexts;
-use exh_run::{Run, made_status, refuse_change, tell_text};
+use exh_run::{INPUT, Reason, Run, Status, StoreError, made_status, refuse_change, tell_text};
 use exh_stream::Output;
-use exh_system::{INPUT, Reason};
-use exh_text::{push_number, push_text};
-use exhash::StoreError;
+use exh_text::{Escaped, push_number, push_text};
 use std::alloc::{AllocError, Global};
 use std::io::Write;
 

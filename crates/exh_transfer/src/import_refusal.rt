@@ -1,7 +1,7 @@
 //! Why pairs aren't imported.
 
 use exh_import::ImportFault;
-use exhash::StoreError;
+use exh_run::StoreError;
 
 /// Why an import ended before its text's end, and how many pairs were committed until then.
 #[derive(Drop)]

@@ -10,15 +10,12 @@ use crate::outcome::Outcome;
 use crate::pair_store::PairStore;
 use crate::rejected::Rejected;
 use crate::rejects_file::RejectsFile;
-use exh_answer::Status;
 use exh_import::{Begun, Heading, ImportFault, ImportOptions, Imported, LineReader, take_heading};
-use exh_notes::{Escaped, ReasonReader};
 use exh_pair_text::{Columns, FieldNames, Layout};
 use exh_request::{GivenTexts, ImportWords};
-use exh_run::{Run, is_for_log, tell_refused};
+use exh_run::{Reason, Run, Settings, Status, Store, StoreError, is_for_log, make, tell_refused};
 use exh_stream::Output;
-use exh_system::Reason;
-use exhash::{Settings, Store, StoreError, make};
+use exh_text::{Escaped, ReasonReader};
 use std::cell::Cell;
 use std::io::{Read, Write};
 

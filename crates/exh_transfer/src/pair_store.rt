@@ -4,8 +4,7 @@ ghost use Rattle.exh_transfer.specs.Imports.{HasRefusal, gives_pair, rests_open,
 
 use crate::progress::Progress;
 use exh_import::{Added, ImportedStore, Refused};
-use exh_run::{Run, tell_refused};
-use exhash::{Put, Store, StoreError};
+use exh_run::{Put, Run, Store, StoreError, tell_refused};
 use std::thread::sleep;
 use std::time::Duration;
 

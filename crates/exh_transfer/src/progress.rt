@@ -1,8 +1,8 @@
 //! What standard error says of an import that goes on.
 ghost use Rattle.std.specs.Prelude.{◌≡◌, ◌*◌, ◌/◌, max, min};
 
-use exh_notes::Escaped;
 use exh_run::Run;
+use exh_text::Escaped;
 use std::time::{Duration, Instant};
 
 // So many milliseconds are between two lines at least.

@@ -2,9 +2,8 @@
 
 use crate::rejects_file::RejectsFile;
 use exh_import::{Rejection, Rejects};
-use exh_notes::Escaped;
-use exh_run::{Run, tell_refused};
-use exh_system::INPUT;
+use exh_run::{INPUT, Run, tell_refused};
+use exh_text::Escaped;
 
 // How long a line is shown on standard error.
 const SHOWN: usize = 200;

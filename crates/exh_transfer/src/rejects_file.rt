@@ -2,8 +2,8 @@
 
 use exh_import::Rejection;
 use exh_pair_text::{PairFormat, push_pair};
+use exh_run::StoreError;
 use exh_text::{push_number, push_text};
-use exhash::StoreError;
 use std::alloc::{AllocError, Global};
 use std::fs::{File, OpenOptions};
 use std::io;

@@ -13,5 +13,5 @@ pub fn legal_files_are_saved()
     exh_codec::images_are_blocks();
     exh_salvage::pages_are_saved();
     exh_salvage::whole_files_are_saved();
-    exh_versions::legal_bytes_are_files();
+    exh_compact::legal_bytes_are_files();
 }

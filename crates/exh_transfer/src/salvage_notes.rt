@@ -1,9 +1,8 @@
 //! What standard error says of a salvage.
 
-use exh_notes::Escaped;
-use exh_run::{Run, key_word};
+use exh_run::{PageLog, Run, key_word};
 use exh_salvage::{Salvage, SavedPair, repeats_in};
-use exh_system::PageLog;
+use exh_text::Escaped;
 use std::alloc::AllocError;
 use std::{fs, io};
 

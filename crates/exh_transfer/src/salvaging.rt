@@ -6,13 +6,10 @@ ghost use Rattle.exh_transfer.specs.Salvages.{SalvageEnds, line_of_saved, salvag
 
 use crate::open_blocks::OpenBlocks;
 use crate::salvage_notes::tell_salvage;
-use exh_answer::Status;
 use exh_pair_text::{PairFormat, push_end, push_opening, push_pair};
-use exh_run::{Run, refuse_reading, tell_text};
+use exh_run::{Run, Status, StoreError, open_regular, refuse_reading, tell_text};
 use exh_salvage::{Salvage, SavedPair, salvage_of};
 use exh_stream::Output;
-use exh_system::open_regular;
-use exhash::StoreError;
 use std::alloc::{AllocError, Global};
 use std::io::Write;
 

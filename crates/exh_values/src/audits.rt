@@ -1,12 +1,11 @@
 //! Journals whose replies were worked out by hand, and those of wards that a load answered.
 
 use exh_calls::{Base, Journal, PackedPairs, Reply};
-use exh_file::Opened;
 use exh_fixtures::{Difference, Said, key, value};
 use exh_frames::FileStore;
 use exh_keyer::PlainKeyer;
 use exh_report::audit;
-use exh_script::load;
+use exh_script::{Opened, load};
 use std::alloc::{AllocError, Global};
 use std::test::Fail;
 

@@ -3,7 +3,7 @@
 ghost use Rattle.std.specs.Prelude.{◌≤◌, None, length};
 ghost use Rattle.exh_codec.specs.declared.block.TheConstants.{CONTENT_LEN};
 
-use exh_batch::{ChangedAll, change_all};
+use exh_change::{ChangedAll, change_all};
 use exh_codec::{BLOCK_LEN, seal};
 use exh_direct::Blocks;
 use exh_fixtures::{Difference, Said};

@@ -3,3 +3,17 @@ pub mod Told
 pub mod Plain
 pub mod OneFile
 pub mod Read
+pub mod Elements
+pub mod Blocks
+pub mod Pages
+pub mod Places
+pub mod Headers
+pub mod NoFault
+pub mod PlacedOneFile
+pub mod Placed
+pub mod Groups
+pub mod Files
+pub mod PlacedRead
+pub mod Legal
+pub mod LegalRead
+pub mod PlacedPlain

@@ -5,10 +5,10 @@ use Rattle.exh_format.specs.FileLaws.{OneFile}
 use Rattle.exh_format.specs.FileVersion.{version_of}
 use Rattle.exh_format.specs.FileVersionLemmas.{known_file_fits}
 use Rattle.exh_format.specs.PageFile.{PageFile}
-use Rattle.exh_cells.specs.CellLaws.{CellsTellTables}
-use Rattle.exh_cells.specs.LegalPlaced.{HasTables}
-use Rattle.exh_cells.specs.PlacedFile.{PlacedFile}
-use Rattle.exh_placed.specs.PlacedLaws.{OnePlacedFile}
+use Rattle.exh_versions.specs.CellLaws.{CellsTellTables}
+use Rattle.exh_versions.specs.LegalPlaced.{HasTables}
+use Rattle.exh_versions.specs.PlacedFile.{PlacedFile}
+use Rattle.exh_versions.specs.PlacedLaws.{OnePlacedFile}
 use Rattle.exh_versions.specs.LegalBytes.{IsLegalBytes, IsLegalPlacedOf}
 use Rattle.exh_versions.specs.PlainFile.{plain_file}
 use Rattle.exh_versions.specs.VersionLemmas.{says_placed, says_plain}

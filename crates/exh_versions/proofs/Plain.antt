@@ -21,10 +21,11 @@ use Rattle.exh_table.specs.TableWalk.{right_of, right_of_kind, split_at}
 use Rattle.exh_page.specs.declared.page.Page.{Page}
 use Rattle.exh_page.specs.Page.{low_bound}
 use Rattle.exh_legal.specs.Fit.{FitsPages}
-use Rattle.exh_legal.specs.LegalLaws.{IsWard}
-use Rattle.exh_legal.specs.Pages.{AreLinked, bare}
-use Rattle.exh_legal.specs.ReasonLaws.{IsLegalFile, LegalTablesHaveRoom}
-use Rattle.exh_codec.specs.PageImage.{IsPage}
+use Rattle.exh_cells.specs.Fit.{pages_in}
+use Rattle.exh_versions.specs.LegalLaws.{IsWard}
+use Rattle.exh_versions.specs.Pages.{AreLinked, bare}
+use Rattle.exh_versions.specs.ReasonLaws.{IsLegalFile, LegalTablesHaveRoom}
+use Rattle.exh_versions.specs.PageImage.{IsPage}
 use Rattle.exh_format.specs.FileVersion.{written_format}
 use Rattle.exh_format.specs.HeaderImage.{IsHeader}
 use Rattle.exh_format.specs.HeaderLemmas.{few_wards}
@@ -33,9 +34,8 @@ use Rattle.exh_format.specs.LegalFileLemmas.{table_naming_at}
 use Rattle.exh_format.specs.PageFile.{PageFile, pages_of}
 use Rattle.exh_format.specs.TableImage.{AreRising, IsFileEntry, prefixes_of}
 use Rattle.exh_format.specs.declared.file_entry.FileEntry.{FileEntry}
-use Rattle.exh_cells.specs.Fit.{pages_in}
-use Rattle.exh_cells.specs.LegalPlaced.{IsLegalPlacedFile, pages_of_ward, placed_parts, wards_of}
-use Rattle.exh_cells.specs.PlacedFile.{PlacedFile, lows_of}
+use Rattle.exh_versions.specs.LegalPlaced.{IsLegalPlacedFile, pages_of_ward, placed_parts, wards_of}
+use Rattle.exh_versions.specs.PlacedFile.{PlacedFile, lows_of}
 use Rattle.exh_versions.specs.PlainFile.{counted_header, entries_of_tables, plain_file}
 use Rattle.exh_versions.specs.VersionLaws.{IsPlainOf}
 use Rattle.exh_versions.proofs.WardEntries.{IsPlaced, all_in, all_of_table, all_rise, entries_count, none_in, own_in, own_table, placed}

@@ -19,15 +19,15 @@ use Rattle.exh_format.specs.declared.file_parts.FileParts.{FileParts}
 use Rattle.exh_format.specs.declared.header.Header.{Header}
 use Rattle.exh_format.specs.declared.legal_file_fault.LegalFileFault.{LegalFileFault}
 use Rattle.exh_format.specs.declared.legal_file_fault.LegalFileFault.TheVariants.{File, Illegal, Memory, Read}
-use Rattle.exh_cells.specs.LegalPlaced.{wards_of}
-use Rattle.exh_cells.specs.PlacedFile.{PlacedFile}
+use Rattle.exh_versions.specs.LegalPlaced.{wards_of}
+use Rattle.exh_versions.specs.PlacedFile.{PlacedFile}
 use Rattle.exh_cells.specs.declared.stamped_header.StampedHeader.{StampedHeader}
-use Rattle.exh_placed.specs.PlacedParts.{ArePartsOf}
-use Rattle.exh_placed.specs.declared.placed_parts.PlacedParts.{PlacedParts}
+use Rattle.exh_versions.specs.PlacedParts.{ArePartsOf}
+use Rattle.exh_versions.specs.declared.placed_parts.PlacedParts.{PlacedParts}
 use Rattle.exh_versions.specs.FirstFault.{IsFirstFault, IsFirstFaultOf}
 use Rattle.exh_versions.specs.LegalBytes.{SaysPlaced}
 use Rattle.exh_versions.specs.PlainFile.{counted_header, entries_of_tables, plain_file}
-use Rattle.exh_placed.specs.LegalReading.{IsLegalPlacedFault, IsLegalPlacedFaultOf}
+use Rattle.exh_versions.specs.LegalReading.{IsLegalPlacedFault, IsLegalPlacedFaultOf}
 
 -- ---- parts that say what a file of version 3 says
 

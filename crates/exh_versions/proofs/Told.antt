@@ -11,8 +11,8 @@ use Rattle.exh_notice.specs.NoticeImages.{right_field}
 use Rattle.exh_table.specs.Table.{IsEntryOf, TableMap}
 use Rattle.exh_cells.specs.declared.cell.Cell.{Cell}
 use Rattle.exh_cells.specs.declared.cell.Slot.{Slot}
-use Rattle.exh_cells.specs.Told.{AreTablesOf, entry_in, kind_in, number_at, told_at, told_by_cell, told_by_place, told_by_slot, told_of_ward}
-use Rattle.exh_cells.specs.WalkImage.{IsCell, IsReadSlot}
+use Rattle.exh_versions.specs.Told.{AreTablesOf, entry_in, kind_in, number_at, told_at, told_by_cell, told_by_place, told_by_slot, told_of_ward}
+use Rattle.exh_versions.specs.WalkImage.{IsCell, IsReadSlot}
 
 -- an entry whose numbers have four bytes
 pub record IsSmall (entry : Entry) : Type 0 where

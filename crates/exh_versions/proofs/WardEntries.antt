@@ -28,7 +28,7 @@ use Rattle.exh_table.specs.TableLemmas.{same_from_tie}
 use Rattle.exh_format.specs.TableImage.{AreRising, prefixes_of}
 use Rattle.exh_format.specs.declared.file_entry.FileEntry.{FileEntry}
 use Rattle.exh_format.specs.LegalFile.{naming, told_of}
-use Rattle.exh_legal.specs.OrderLemmas.{is_less}
+use Rattle.exh_versions.specs.OrderLemmas.{is_less}
 use Rattle.exh_versions.specs.PlainFile.{entries_of_table, file_entry}
 
 -- those of tables whose wards are numbered from one on

@@ -3,7 +3,7 @@ use Rattle.std.specs.Prelude.{◌≡◌, ℕ, List}
 use Rattle.exh_format.specs.FileVersion.{format_of}
 use Rattle.exh_format.specs.LegalFile.{IsLegalPageFile}
 use Rattle.exh_format.specs.PageFile.{PageFile}
-use Rattle.exh_cells.specs.PlacedFile.{lows_of}
+use Rattle.exh_versions.specs.PlacedFile.{lows_of}
 use Rattle.exh_versions.specs.declared.file_form.FileForm.{FileForm}
 use Rattle.exh_versions.specs.declared.file_form.FileForm.TheVariants.{Placed, Plain}
 use Rattle.exh_versions.specs.declared.file_form.PlacedForm.{PlacedForm}

@@ -4,7 +4,7 @@ use Rattle.exh_format.specs.FileVersion.{format_of}
 use Rattle.exh_format.specs.LegalFile.{IsLegalFileFault}
 use Rattle.exh_format.specs.declared.legal_file_fault.LegalFileFault.{LegalFileFault}
 use Rattle.exh_format.specs.declared.legal_file_fault.LegalFileFault.TheVariants.{File, Illegal, Memory, Read}
-use Rattle.exh_placed.specs.LegalReading.{IsLegalPlacedFault}
+use Rattle.exh_versions.specs.LegalReading.{IsLegalPlacedFault}
 use Rattle.exh_versions.specs.LegalBytes.{SaysPlaced}
 
 -- where the bytes say version 3 the fault is that of a file of it, else that of a file of the versions before

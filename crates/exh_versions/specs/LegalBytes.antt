@@ -5,9 +5,9 @@ use Rattle.exh_table.specs.Table.{TableMap}
 use Rattle.exh_format.specs.FileVersion.{format_of}
 use Rattle.exh_format.specs.LegalFile.{IsLegalPageFile}
 use Rattle.exh_format.specs.PageFile.{PageFile}
-use Rattle.exh_cells.specs.LegalPlaced.{IsLegalPlacedFile}
-use Rattle.exh_cells.specs.PlacedFile.{PlacedFile}
-use Rattle.exh_cells.specs.StampedHeader.{placed_format}
+use Rattle.exh_versions.specs.LegalPlaced.{IsLegalPlacedFile}
+use Rattle.exh_versions.specs.PlacedFile.{PlacedFile}
+use Rattle.exh_versions.specs.StampedHeader.{placed_format}
 use Rattle.exh_versions.specs.PlainFile.{plain_file}
 
 -- ---- legal files

@@ -8,8 +8,8 @@ use Rattle.exh_format.specs.declared.file_entry.FileEntry.{FileEntry}
 use Rattle.exh_format.specs.declared.header.Header.{Header}
 use Rattle.exh_format.specs.PageFile.{PageFile}
 use Rattle.exh_cells.specs.declared.stamped_header.StampedHeader.{StampedHeader}
-use Rattle.exh_cells.specs.LegalPlaced.{wards_of}
-use Rattle.exh_cells.specs.PlacedFile.{PlacedFile}
+use Rattle.exh_versions.specs.LegalPlaced.{wards_of}
+use Rattle.exh_versions.specs.PlacedFile.{PlacedFile}
 
 -- ---- the entries of tables
 

@@ -2,12 +2,12 @@
 use Rattle.std.specs.Prelude.{◌≡◌, ℕ, List}
 use Rattle.exh_keyer.specs.Pseudokey.{any_pseudokey}
 use Rattle.exh_table.specs.Table.{TableMap}
-use Rattle.exh_legal.specs.ReasonLaws.{IsLegalFile}
+use Rattle.exh_versions.specs.ReasonLaws.{IsLegalFile}
 use Rattle.exh_format.specs.FileVersion.{written_format}
 use Rattle.exh_format.specs.LegalFile.{parts_in, ward_tables}
 use Rattle.exh_format.specs.PageFile.{IsFile, IsKnownFile, PageFile}
-use Rattle.exh_cells.specs.LegalPlaced.{IsLegalPlacedFile}
-use Rattle.exh_cells.specs.PlacedFile.{PlacedFile}
+use Rattle.exh_versions.specs.LegalPlaced.{IsLegalPlacedFile}
+use Rattle.exh_versions.specs.PlacedFile.{PlacedFile}
 use Rattle.exh_versions.specs.LegalBytes.{IsLegalBytes}
 use Rattle.exh_versions.specs.PlainFile.{plain_file}
 

@@ -18,9 +18,9 @@ use Rattle.exh_format.specs.PageFile.{IsPageFile, PageFile, file_bytes, header_b
 use Rattle.exh_format.specs.Reading.{AreBytes}
 use Rattle.exh_format.specs.declared.file_entry.FileEntry.{FileEntry}
 use Rattle.exh_cells.specs.declared.cell.Cell.{Cell}
-use Rattle.exh_cells.specs.LegalPlaced.{IsLegalPlacedFile, pages_of_ward, wards_of}
-use Rattle.exh_cells.specs.Places.{groups_of}
-use Rattle.exh_cells.specs.PlacedFile.{IsPlacedFile, PlacedFile, group_bytes, placed_bytes, stamped_block, walk_block}
+use Rattle.exh_versions.specs.LegalPlaced.{IsLegalPlacedFile, pages_of_ward, wards_of}
+use Rattle.exh_versions.specs.Places.{groups_of}
+use Rattle.exh_versions.specs.PlacedFile.{IsPlacedFile, PlacedFile, group_bytes, placed_bytes, stamped_block, walk_block}
 use Rattle.exh_versions.specs.LegalBytes.{IsLegalBytes, SaysPlaced}
 use Rattle.exh_versions.specs.PlainFile.{entries_of_table, entries_of_tables, file_entry}
 

@@ -7,7 +7,7 @@ ghost use Rattle.exh_versions.specs.VersionLaws.{LegalBytesAreFiles, OneLegalFil
 pub fn placed_files_say_files()
     ensures { PlacedFilesSayFiles }
 {
-    exh_legal::legal_tables_have_room();
+    crate::legal_tables_have_room();
 }
 
 /// Bytes of any version are those of a legal file that the code knows.
@@ -22,6 +22,6 @@ pub fn one_legal_file()
     ensures { OneLegalFile }
 {
     exh_format::one_file();
-    exh_placed::one_placed_file();
-    exh_cells::cells_and_tables_tell();
+    crate::one_placed_file();
+    crate::cells_and_tables_tell();
 }

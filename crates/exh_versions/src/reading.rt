@@ -5,23 +5,23 @@ ghost use Rattle.exh_format.specs.FileVersion.{format_of};
 ghost use Rattle.exh_format.specs.LegalFile.{IsLegalFileFaultOf, IsLegalPageFile, IsOtherFault};
 ghost use Rattle.exh_format.specs.PageFile.{PageFile};
 ghost use Rattle.exh_format.specs.Reading.{AreBytes};
-ghost use Rattle.exh_cells.specs.LegalPlaced.{IsLegalPlacedFile};
-ghost use Rattle.exh_cells.specs.PlacedFile.{PlacedFile};
+ghost use Rattle.exh_versions.specs.LegalPlaced.{IsLegalPlacedFile};
+ghost use Rattle.exh_versions.specs.PlacedFile.{PlacedFile};
 ghost use Rattle.exh_versions.specs.AnyFile.{IsReadLegal, any_file_read};
 ghost use Rattle.exh_versions.specs.FirstFault.{IsFirstFaultOf};
 ghost use Rattle.exh_versions.specs.LegalBytes.{IsLegalBytes};
 ghost use Rattle.exh_versions.specs.PlainFile.{counted_header, entries_of_tables, plain_file};
-ghost use Rattle.exh_placed.specs.LegalReading.{IsLegalPlacedFaultOf};
+ghost use Rattle.exh_versions.specs.LegalReading.{IsLegalPlacedFaultOf};
 ghost use Rattle.exh_versions.specs.declared.file_form.FileForm.TheVariants.{Placed};
 
 use crate::entries::entries_of_tables;
-use crate::front::{FRONT_LEN, read_front, says_placed};
-use crate::{AnyFile, FileForm, PlacedForm, one_legal_file, placed_files_say_files};
-use exh_cells::StampedHeader;
-use exh_codec::ReadPages;
-use exh_format::{FileParts, Header, LegalFile, LegalFileFault, read_legal_file};
+use crate::front::{read_front, says_placed};
+use crate::{
+    AnyFile, FileForm, LegalPlaced, PlacedForm, PlacedParts, ReadPages, StampedHeader,
+    one_legal_file, placed_files_say_files, read_legal_placed,
+};
+use exh_format::{FileParts, Header, LegalFile, LegalFileFault, NUMBERED_LEN, read_legal_file};
 use exh_keyer::AnyKeyer;
-use exh_placed::{LegalPlaced, PlacedParts, read_legal_placed};
 use std::alloc::{AllocError, Global};
 use std::io::Read;
 
@@ -42,7 +42,7 @@ pub fn read_any_file<R: Read, W: ReadPages<AnyKeyer>>(
     ensures every { (file : PageFile) (bytes : List ℕ) → R.remaining reader.old ≡ Some bytes → AreBytes bytes → IsLegalBytes file bytes
         → MatchResult result (λ found. any_file_read W.pages found ≡ file) IsOtherFault }
 {
-    let mut front = [0; FRONT_LEN];
+    let mut front = [0; NUMBERED_LEN];
     let count = read_front(reader, &mut front)?;
     let is_placed = says_placed(&front, count);
     let mut whole = (&front[..count]).chain(reader);

@@ -6,7 +6,7 @@ use Rattle.exh_calls.specs.declared.reply.Reply.{Reply}
 use Rattle.exh_ward.specs.declared.hop.Hop.{Hop}
 use Rattle.exh_ward.specs.declared.hop.Hop.TheVariants.{MustSplit}
 use Rattle.exh_ward.specs.declared.ward_fault.WardFault.{WardFault}
-use Rattle.exh_route.specs.WardRun.{WardEvent, HopAt, SplitAt, MergeAt}
+use Rattle.exh_walk.specs.WardRun.{WardEvent, HopAt, SplitAt, MergeAt}
 use Rattle.exh_walk.specs.declared.ask_fault.AskFault.{AskFault}
 use Rattle.exh_walk.specs.declared.ask_fault.AskFault.TheVariants.{Held}
 use Rattle.exh_walk.specs.declared.walk.Turn.{Turn}

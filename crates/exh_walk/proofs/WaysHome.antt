@@ -17,9 +17,9 @@ use Rattle.exh_ward.specs.declared.hop.Hop.{Hop}
 use Rattle.exh_ward.specs.declared.hop.Hop.TheVariants.{Done, Moved, MustSplit, Stray}
 use Rattle.exh_ward.specs.declared.ward_fault.WardFault.{WardFault}
 use Rattle.exh_ward.specs.declared.ward_fault.WardFault.TheVariants.{Memory, Page as PageFault, NoPage, NotLive, NotFull, AtLimit, NoBuddy, BuddySplit, TooMany, Worn}
-use Rattle.exh_route.specs.RouteLaws.{EndsAtHome}
-use Rattle.exh_route.specs.WardMoves.{AreMoves, EndsMoves}
-use Rattle.exh_route.specs.WardRun.{WardEvent, HopAt}
+use Rattle.exh_walk.specs.RouteLaws.{EndsAtHome}
+use Rattle.exh_walk.specs.WardMoves.{AreMoves, EndsMoves}
+use Rattle.exh_walk.specs.WardRun.{WardEvent, HopAt}
 use Rattle.exh_walk.specs.declared.ask_fault.AskFault.{AskFault}
 use Rattle.exh_walk.specs.declared.ask_fault.AskFault.TheVariants.{Held}
 use Rattle.exh_walk.specs.CallerWalk.{Due, HopDue, SplitDue, Over, IsRun, AreDue, IsWhatWasDue, IsEnd, IsWalked, MayPass, MaySayNo, MaySayYes, after_fault, fault_at, due_after, due_from, hops_in}

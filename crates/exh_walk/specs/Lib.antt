@@ -2,3 +2,10 @@ pub mod CallerWalk
 pub mod Turn
 pub mod WardStep
 pub mod WardWalk
+pub mod WardRun
+pub mod DistanceFunction
+pub mod WardMoves
+pub mod RouteLaws
+pub mod DistanceLaws
+pub mod EventProgress
+pub mod StepFault

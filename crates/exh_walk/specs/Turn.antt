@@ -3,7 +3,7 @@ use Rattle.std.specs.Prelude.{◌≡◌, ℕ, List, Result, Ok, Err}
 use Rattle.exh_notice.specs.declared.notice.Notice.{Notice}
 use Rattle.exh_calls.specs.declared.call.Call.{Call}
 use Rattle.exh_ward.specs.declared.ward_fault.WardFault.{WardFault}
-use Rattle.exh_route.specs.WardRun.{WardEvent, SplitAt}
+use Rattle.exh_walk.specs.WardRun.{WardEvent, SplitAt}
 use Rattle.exh_walk.specs.declared.ask_fault.AskFault.{AskFault}
 use Rattle.exh_walk.specs.declared.walk.Turn.{Turn}
 use Rattle.exh_walk.specs.declared.walk.Turn.TheVariants.{Answered, At}

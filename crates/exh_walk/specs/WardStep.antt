@@ -2,7 +2,7 @@
 use Rattle.std.specs.Prelude.{⊤, ℕ, List, Err}
 use Rattle.exh_ward.specs.WardFault.{CountsFailures, IsStoreFault, SplitRefused}
 use Rattle.exh_ward.specs.WardState.{WardState, IsSoundWard}
-use Rattle.exh_route.specs.WardRun.{WardEvent, HopAt, SplitAt, MergeAt, WardStep}
+use Rattle.exh_walk.specs.WardRun.{WardEvent, HopAt, SplitAt, MergeAt, WardStep}
 
 -- where a refusal comes
 abbrev pub IsRefusal : {K : Type 0} → WardState K → WardEvent → Type 0

@@ -12,7 +12,7 @@ use Rattle.exh_ward.specs.declared.hop.Hop.{Hop}
 use Rattle.exh_ward.specs.declared.ward_fault.WardFault.{WardFault}
 use Rattle.exh_ward.specs.WardState.{WardState, IsSoundWard}
 use Rattle.exh_ward.specs.Distance.{IsDistance}
-use Rattle.exh_route.specs.WardRun.{WardEvent, HopAt, SplitAt, WardMoment, IsWardRun}
+use Rattle.exh_walk.specs.WardRun.{WardEvent, HopAt, SplitAt, WardMoment, IsWardRun}
 use Rattle.exh_walk.specs.declared.ask_fault.AskFault.{AskFault}
 use Rattle.exh_walk.specs.declared.ask_fault.AskFault.TheVariants.{Held}
 use Rattle.exh_walk.specs.CallerWalk.{MaySayNo, MaySayYes}

@@ -1,7 +1,7 @@
 ghost use Rattle.std.specs.Prelude.{ℕ, Bool, Result, IfErr};
 ghost use Rattle.exh_calls.specs.declared.call.Call.{Call as CallValue};
 ghost use Rattle.exh_calls.specs.declared.reply.Reply.{Reply as ReplyValue};
-ghost use Rattle.exh_route.specs.WardRun.{WardEvent, HopAt, SplitAt};
+ghost use Rattle.exh_walk.specs.WardRun.{WardEvent, HopAt, SplitAt};
 ghost use Rattle.exh_walk.specs.CallerWalk.{IsWalked, MayBeAsked, ServesOn};
 ghost use Rattle.exh_walk.specs.declared.ask_fault.AskFault.{AskFault as AskFaultValue};
 ghost use Rattle.exh_ward.specs.WardFault.{IsStoreFault};

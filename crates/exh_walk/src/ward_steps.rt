@@ -5,14 +5,12 @@ ghost use Rattle.exh_walk.specs.WardStep.{IsWardStep};
 ghost use Rattle.exh_walk.specs.WardWalk.{IsWalkOfWard};
 ghost use Rattle.exh_ward.specs.WardState.{own_prefix};
 
-use crate::{Gate, Steps};
+use crate::{Gate, Steps, gets_go_home, one_distance};
 use exh_calls::Call;
 use exh_keyer::Keyer;
 use exh_notice::Notice;
 use exh_prefix::PageNo;
-use exh_route::{gets_go_home, one_distance};
-use exh_stores::Pages;
-use exh_ward::{Hop, Ward, WardFault, one_hop};
+use exh_ward::{Hop, Pages, Ward, WardFault, one_hop};
 
 /// A ward by itself: nothing steps between. An answer of a walk adds one entry to the journal, the
 /// caller's call with the reply, and else there are only splits; a refusal adds none. A call that gives

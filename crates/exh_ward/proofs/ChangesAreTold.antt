@@ -13,8 +13,8 @@ use Rattle.exh_notice.specs.declared.entry.Entry.{Entry}
 use Rattle.exh_notice.specs.declared.entry.Kind.{Kind}
 use Rattle.exh_notice.specs.declared.notice.Notice.{Notice}
 use Rattle.exh_notice.specs.Entry.{entry_of}
-use Rattle.exh_table.specs.Table.{TableMap, greater_of, entry_number, table_with, table_at, raised, entry_after}
-use Rattle.exh_table.specs.SetLemmas.{IsTableSince-push}
+use Rattle.exh_legal.specs.Table.{TableMap, greater_of, entry_number, table_with, table_at, raised, entry_after}
+use Rattle.exh_legal.specs.SetLemmas.{IsTableSince-push}
 use Rattle.exh_page.specs.declared.page.Page.{Page}
 use Rattle.exh_page.specs.Page.{low_bound}
 use Rattle.exh_legal.specs.Growth.{IsPageOf}

@@ -10,7 +10,7 @@ use Rattle.exh_stores.specs.declared.pages_fault.PagesFault.{PagesFault}
 use Rattle.exh_stores.specs.declared.pages_fault.PagesFault.TheVariants.{Memory as StoreMemory, Page as StorePage}
 use Rattle.exh_prefix.specs.PrefixListLemmas.{one_there}
 use Rattle.exh_notice.specs.declared.entry.Kind.{Kind}
-use Rattle.exh_table.specs.Table.{TableMap}
+use Rattle.exh_legal.specs.Table.{TableMap}
 use Rattle.exh_legal.specs.Pages.{IsAt}
 use Rattle.exh_legal.specs.ChangeNumbers.{next_notice}
 use Rattle.exh_calls.specs.declared.journal_entry.JournalEntry.{JournalEntry}

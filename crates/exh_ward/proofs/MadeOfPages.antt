@@ -5,8 +5,8 @@ use Rattle.std.proofs.Math.Nat.{pow-le-pow_right}
 use Rattle.exh_prefix.specs.BitLemmas.{length-bits_of}
 use Rattle.exh_prefix.specs.declared.prefix.TheConstants.{LIMIT, WARD_BITS_LIMIT}
 use Rattle.exh_notice.specs.declared.notice.Notice.{Notice}
-use Rattle.exh_table.specs.TableLaws.{OwnEntries}
-use Rattle.exh_table.specs.Table.{TableMap, IsTableOf, IsTableSince}
+use Rattle.exh_legal.specs.TableLaws.{OwnEntries}
+use Rattle.exh_legal.specs.Table.{TableMap, IsTableOf, IsTableSince}
 use Rattle.exh_page.specs.declared.page.TheConstants.{CAP_LIMIT}
 use Rattle.exh_page.specs.declared.page.Page.{Page}
 use Rattle.exh_page.specs.KeyMap.{KeyMap}

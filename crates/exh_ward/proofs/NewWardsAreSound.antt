@@ -5,8 +5,8 @@ use Rattle.std.specs.List.{sum_by}
 use Rattle.exh_prefix.specs.BitLemmas.{length-bits_of}
 use Rattle.exh_notice.specs.declared.entry.Entry.{Entry}
 use Rattle.exh_notice.specs.declared.notice.Notice.{Notice}
-use Rattle.exh_table.specs.Table.{TableMap}
-use Rattle.exh_table.specs.SetLemmas.{no_entries, since_nothing}
+use Rattle.exh_legal.specs.Table.{TableMap}
+use Rattle.exh_legal.specs.SetLemmas.{no_entries, since_nothing}
 use Rattle.exh_page.specs.declared.page.TheConstants.{CAP_LIMIT}
 use Rattle.exh_page.specs.declared.page.Page.{Page}
 use Rattle.exh_page.specs.declared.page.Page.TheVariants.{Live}

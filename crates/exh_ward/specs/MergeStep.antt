@@ -3,7 +3,7 @@ use Rattle.std.specs.Prelude.{◌≡◌, ◌⊎◌, ℕ, ◌+◌, ◌<◌, ◌�
 use Rattle.exh_prefix.specs.declared.prefix.TheConstants.{LIMIT}
 use Rattle.exh_notice.specs.declared.entry.Kind.TheVariants.{Merge}
 use Rattle.exh_notice.specs.declared.notice.Notice.{Notice}
-use Rattle.exh_table.specs.Table.{table_with}
+use Rattle.exh_legal.specs.Table.{table_with}
 use Rattle.exh_page.specs.declared.page.Page.TheVariants.{Live}
 use Rattle.exh_page.specs.declared.record.Record.{Record}
 use Rattle.exh_legal.specs.Change.{IsMerge}

@@ -4,7 +4,7 @@ use Rattle.std.specs.List.{range_with_len}
 use Rattle.std.specs.FinMap.{empty}
 use Rattle.exh_page.specs.declared.page.Page.TheVariants.{Live}
 use Rattle.exh_prefix.specs.Leading.{ward_prefix}
-use Rattle.exh_settings.specs.declared.file_settings.FileSettings.{FileSettings}
+use Rattle.exh_page.specs.declared.file_settings.FileSettings.{FileSettings}
 use Rattle.exh_ward.specs.WardState.{WardState}
 
 -- a ward of one page, of all its keys, with no record

@@ -1,7 +1,7 @@
 -- Pages put into a list, for whoever computes what a change leaves.
 use Rattle.std.specs.Prelude.{ℕ, suc, List, ◌∷◌, ◌++◌, take, drop, Result, Ok, Err, []}
 use Rattle.exh_notice.specs.declared.notice.Notice.{Notice}
-use Rattle.exh_table.specs.Table.{table_with}
+use Rattle.exh_legal.specs.Table.{table_with}
 use Rattle.exh_page.specs.declared.page.Page.{Page}
 use Rattle.exh_ward.specs.WardState.{WardState}
 use Rattle.exh_ward.specs.declared.ward_fault.WardFault.{WardFault}

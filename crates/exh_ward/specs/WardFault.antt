@@ -6,7 +6,7 @@ use Rattle.exh_page.specs.declared.page.Page.TheVariants.{Live, Forward}
 use Rattle.exh_page.specs.declared.record.Record.{Record}
 use Rattle.exh_page.specs.Page.{IsLive}
 use Rattle.exh_legal.specs.ChangeNumbers.{number_at}
-use Rattle.exh_table.specs.Table.{TableMap}
+use Rattle.exh_legal.specs.Table.{TableMap}
 use Rattle.exh_legal.specs.Pages.{IsAt}
 use Rattle.exh_stores.specs.declared.pages_fault.PagesFault.{PagesFault}
 use Rattle.exh_stores.specs.declared.pages_fault.PagesFault.TheVariants.{Memory as StoreMemory, Page as StorePage}

@@ -1,7 +1,7 @@
 -- A ward as a value, and what its steps leave of it.
 use Rattle.std.specs.Prelude.{◌≡◌, ℕ, ◌+◌, nat_lt, Bool, List, ◌++◌, ◌∷◌, [], length, filter}
 use Rattle.exh_notice.specs.declared.notice.Notice.{Notice}
-use Rattle.exh_table.specs.Table.{TableMap, IsTableSince}
+use Rattle.exh_legal.specs.Table.{TableMap, IsTableSince}
 use Rattle.exh_page.specs.declared.page.Page.{Page}
 use Rattle.exh_legal.specs.Fit.{AreTrueNotices}
 use Rattle.exh_page.specs.KeyMap.{KeyMap}

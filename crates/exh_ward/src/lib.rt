@@ -2,6 +2,7 @@
 #![tactic(auto)]
 
 pub use exh_calls::{Base, Call, Entries, Journal, JournalEntry, Pairs, Reply};
+pub use exh_stores::Pages;
 pub use hop::Hop;
 pub use laws::{
     answers_keep_legal, hops_are_computed, hops_have_outcomes, merges_are_computed,

@@ -7,7 +7,7 @@ ghost use Rattle.exh_ward.specs.WardState.{IsSoundWard, WardState};
 
 use crate::{Ward, first_page};
 use exh_keyer::Keyer;
-use exh_settings::FileSettings;
+use exh_page::FileSettings;
 use exh_stores::{Pages, StoreMaker};
 use std::alloc::{AllocError, Global};
 

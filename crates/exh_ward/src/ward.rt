@@ -11,12 +11,11 @@ ghost use Rattle.exh_prefix.specs.declared.prefix.TheConstants.{WARD_BITS_LIMIT}
 
 use exh_calls::{Base, Journal};
 use exh_keyer::Keyer;
-use exh_legal::{PageIndex, lone_pages_are_legal};
+use exh_legal::{PageIndex, Table, lone_pages_are_legal};
 use exh_notice::Notice;
 use exh_page::{CAP_LIMIT, Page, Records};
 use exh_prefix::Prefix;
 use exh_stores::Pages;
-use exh_table::Table;
 use std::alloc::Global;
 use std::marker::Model;
 
@@ -60,7 +59,7 @@ impl<P: Pages + Drop, K: Keyer> Model for Ward<P, K> {
     ghost use Rattle.exh_legal.specs.Pages.{bare};
     ghost use Rattle.exh_legal.specs.PageIndex.{IsIndexOf};
     ghost use Rattle.exh_ward.specs.WardKept.{IsKeptWard};
-    ghost use Rattle.exh_table.specs.Table.{coded_table};
+    ghost use Rattle.exh_legal.specs.Table.{coded_table};
     ghost use Rattle.exh_ward.specs.WardState.{WardState};
 
     ghost Value = { WardState K };

@@ -7,17 +7,17 @@ use Rattle.std.proofs.lemmas.Option.{slice_get-map}
 use Rattle.exh_notice.specs.declared.notice.Notice.{Notice}
 use Rattle.exh_table.specs.Table.{TableMap}
 use Rattle.exh_calls.specs.declared.call.Call.{Call}
-use Rattle.exh_event.specs.declared.event.Event.{Event}
-use Rattle.exh_event.specs.declared.event.Event.TheVariants.{Begin, Hop as HopOn, Split, Merge, Deliver, Send, Combine, Restart}
-use Rattle.exh_event.specs.declared.outcome.Outcome.{Outcome}
-use Rattle.exh_event.specs.declared.outcome.Outcome.TheVariants.{Changed}
-use Rattle.exh_event.specs.declared.step_fault.StepFault.{StepFault}
-use Rattle.exh_event.specs.declared.step_fault.StepFault.TheVariants.{NoCopy, NoRequest, NoWard, NoNotice, NoTable}
-use Rattle.exh_event.specs.EventProgress.{progress_with, hop_outcome}
+use Rattle.exh_walk.specs.declared.event.Event.{Event}
+use Rattle.exh_walk.specs.declared.event.Event.TheVariants.{Begin, Hop as HopOn, Split, Merge, Deliver, Send, Combine, Restart}
+use Rattle.exh_walk.specs.declared.outcome.Outcome.{Outcome}
+use Rattle.exh_walk.specs.declared.outcome.Outcome.TheVariants.{Changed}
+use Rattle.exh_walk.specs.declared.step_fault.StepFault.{StepFault}
+use Rattle.exh_walk.specs.declared.step_fault.StepFault.TheVariants.{NoCopy, NoRequest, NoWard, NoNotice, NoTable}
+use Rattle.exh_walk.specs.EventProgress.{progress_with, hop_outcome}
 use Rattle.exh_page.specs.declared.page.Page.{Page}
 use Rattle.exh_page.specs.declared.page.Page.TheVariants.{Live, Forward}
 use Rattle.exh_prefix.specs.Leading.{ward_of}
-use Rattle.exh_route.specs.DistanceFunction.{distance_of}
+use Rattle.exh_walk.specs.DistanceFunction.{distance_of}
 use Rattle.exh_table.specs.TableWalk.{walk_of}
 use Rattle.exh_ward.specs.HopTable.{hop_of}
 use Rattle.exh_ward.specs.MergeFunction.{merge_of, merge_of_page, merged, ward_after_merge}

@@ -26,8 +26,8 @@ use Rattle.exh_ward.specs.WardState.{WardState}
 use Rattle.exh_world.specs.Step.{request_begun, HasBegun}
 use Rattle.exh_prefix.specs.Leading.{ward_of}
 use Rattle.exh_world.specs.World.{WorldState, changes_in, numbered}
-use Rattle.exh_event.specs.declared.event.Event.TheVariants.{Begin}
-use Rattle.exh_event.specs.declared.outcome.Outcome.TheVariants.{Begun}
+use Rattle.exh_walk.specs.declared.event.Event.TheVariants.{Begin}
+use Rattle.exh_walk.specs.declared.outcome.Outcome.TheVariants.{Begun}
 use Rattle.exh_world.specs.declared.world.World.TheInside.{Inside}
 use Rattle.exh_world.proofs.InsideWorld.{with_ward, world_of}
 use Rattle.exh_world.proofs.StepSound.{after_begun}

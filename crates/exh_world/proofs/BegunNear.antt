@@ -10,8 +10,8 @@ use Rattle.exh_calls.specs.Call.{key_of}
 use Rattle.exh_calls.specs.declared.call.Call.{Call}
 use Rattle.exh_ward.specs.WardState.{WardState, own_prefix}
 use Rattle.exh_ward.specs.Distance.{IsDistance}
-use Rattle.exh_route.specs.DistanceLaws.{IsTableWithin, LateTablesAreNear, NamesPages}
-use Rattle.exh_route.specs.RouteLaws.{DistancesAreFew, OneDistance}
+use Rattle.exh_walk.specs.DistanceLaws.{IsTableWithin, LateTablesAreNear, NamesPages}
+use Rattle.exh_walk.specs.RouteLaws.{DistancesAreFew, OneDistance}
 use Rattle.exh_world.specs.InFlight.{request_named}
 use Rattle.exh_world.specs.Sound.{IsSoundWorld}
 use Rattle.exh_world.specs.Step.{HasBegun, pseudokey_in, request_begun}

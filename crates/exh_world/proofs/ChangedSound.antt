@@ -12,8 +12,8 @@ use Rattle.exh_ward.specs.WardState.{WardState, IsSoundWard}
 use Rattle.exh_table.specs.Table.{TableMap, table_with}
 use Rattle.exh_ward.specs.MergeStep.{IsMergeStep}
 use Rattle.exh_ward.specs.SplitStep.{IsSplitStep}
-use Rattle.exh_route.specs.DistanceLaws.{IsTableWithin, StepsAddChanges}
-use Rattle.exh_route.specs.WardRun.{WardEvent, SplitAt, MergeAt, WardStep, changes_by}
+use Rattle.exh_walk.specs.DistanceLaws.{IsTableWithin, StepsAddChanges}
+use Rattle.exh_walk.specs.WardRun.{WardEvent, SplitAt, MergeAt, WardStep, changes_by}
 use Rattle.exh_world.specs.Sound.{IsWardOf, IsSoundWorld}
 use Rattle.exh_world.specs.World.{WorldState}
 use Rattle.exh_world.specs.RequestLemmas.{all_weaker}

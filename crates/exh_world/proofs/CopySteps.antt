@@ -15,11 +15,11 @@ use Rattle.exh_world.specs.WorldLaws.{StepsKeepWorldsSound}
 use Rattle.exh_world.specs.Sound.{IsSoundWorld}
 use Rattle.exh_world.specs.Step.{Step, HasTaken, HasSent, HasJoined, HasRestarted}
 use Rattle.exh_world.specs.World.{WorldState, numbered, issued_in}
-use Rattle.exh_event.specs.declared.event.Event.{Event}
-use Rattle.exh_event.specs.declared.outcome.Outcome.{Outcome}
-use Rattle.exh_event.specs.declared.step_fault.StepFault.{StepFault}
-use Rattle.exh_event.specs.declared.step_fault.StepFault.TheVariants.{Ward, NoNotice}
-use Rattle.exh_event.specs.declared.event.Event.TheVariants.{Deliver}
+use Rattle.exh_walk.specs.declared.event.Event.{Event}
+use Rattle.exh_walk.specs.declared.outcome.Outcome.{Outcome}
+use Rattle.exh_walk.specs.declared.step_fault.StepFault.{StepFault}
+use Rattle.exh_walk.specs.declared.step_fault.StepFault.TheVariants.{Ward, NoNotice}
+use Rattle.exh_walk.specs.declared.event.Event.TheVariants.{Deliver}
 
 -- notices of a sound ward
 pub indexes_in_turn : {K : Type 0} (pseudokey_of : K → List ℕ → ℕ) (ward : WardState K) → IsSoundWard pseudokey_of ward → HaveIndexesInTurn ward.notices

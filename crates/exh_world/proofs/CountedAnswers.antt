@@ -14,14 +14,14 @@ use Rattle.exh_calls.specs.declared.call.Call.{Call}
 use Rattle.exh_calls.specs.declared.reply.Reply.{Reply}
 use Rattle.exh_ward.specs.WardState.{WardState, own_prefix}
 use Rattle.exh_ward.specs.Distance.{IsDistance}
-use Rattle.exh_route.specs.DistanceLaws.{IsTableWithin, WholeCopiesNameHomes}
-use Rattle.exh_route.specs.RouteLaws.{MovesComeNearer, OneDistance}
+use Rattle.exh_walk.specs.DistanceLaws.{IsTableWithin, WholeCopiesNameHomes}
+use Rattle.exh_walk.specs.RouteLaws.{MovesComeNearer, OneDistance}
 use Rattle.exh_world.specs.InFlight.{request_named}
 use Rattle.exh_world.specs.RequestProgress.{bound_in}
 use Rattle.exh_world.specs.Sound.{IsOnTheWay, IsSoundWorld}
 use Rattle.exh_world.specs.Step.{HasBegun, HasHopped, pseudokey_in}
 use Rattle.exh_world.specs.World.{WorldState, changes_in, numbered}
-use Rattle.exh_event.specs.EventProgress.{Progress, Done, Moved, MustSplit, Stray}
+use Rattle.exh_walk.specs.EventProgress.{Progress, Done, Moved, MustSplit, Stray}
 use Rattle.exh_world.specs.declared.request.Request.{Request}
 use Rattle.exh_world.specs.Current.{IsCurrentIn, LooksOnce}
 use Rattle.exh_world.specs.Counted.{IsAway, GoesOn, TellsMoves}

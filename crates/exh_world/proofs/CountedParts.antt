@@ -1,6 +1,6 @@
 -- What is counted over the parts of a run.
 use Rattle.std.proofs.Common.{ℕ, List, [], ◌∷◌, ◌++◌, append_assoc, refl, sym, ap, ◌∙◌, subst}
-use Rattle.exh_route.specs.RouteLaws.{RunsKeepWardsSound}
+use Rattle.exh_walk.specs.RouteLaws.{RunsKeepWardsSound}
 use Rattle.exh_world.specs.Counted.{AnswersAreCounted, RequestsGoOn}
 use Rattle.exh_world.specs.Current.{CurrentCopiesBeginHome, CurrentCopiesLookOnce}
 use Rattle.exh_world.specs.WorldLaws.{StepsKeepWorldsSound}
@@ -9,7 +9,7 @@ use Rattle.exh_world.specs.WorldRun.{Moment, IsRun}
 use Rattle.exh_world.specs.Step.{Step}
 use Rattle.exh_world.specs.Taken.{TakersBeginHome, TakersLookOnce, turns_of}
 use Rattle.exh_world.specs.World.{WorldState}
-use Rattle.exh_event.specs.declared.turn.Turn.{Turn}
+use Rattle.exh_walk.specs.declared.turn.Turn.{Turn}
 use Rattle.exh_world.proofs.GoingOn.{run_sound}
 
 -- a run is one before each of its turns, that turn's step, and one after it

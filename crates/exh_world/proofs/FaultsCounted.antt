@@ -10,14 +10,14 @@ use Rattle.exh_ward.specs.declared.ward_fault.WardFault.TheVariants.{Page}
 use Rattle.exh_world.specs.StepEffectLemmas.{on_effect}
 use Rattle.exh_world.specs.WorldLaws.{IsCounted, failures_in}
 use Rattle.exh_prefix.specs.PrefixListLemmas.{set_same}
-use Rattle.exh_event.specs.EventProgress.{hop_in}
+use Rattle.exh_walk.specs.EventProgress.{hop_in}
 use Rattle.exh_world.specs.Step.{HasEffect, IsRefused, Step}
 use Rattle.exh_world.specs.World.{WorldState}
-use Rattle.exh_event.specs.declared.event.Event.{Event}
-use Rattle.exh_event.specs.declared.event.Event.TheVariants.{Split, Merge}
-use Rattle.exh_event.specs.declared.outcome.Outcome.{Outcome}
-use Rattle.exh_event.specs.declared.step_fault.StepFault.{StepFault}
-use Rattle.exh_event.specs.declared.step_fault.StepFault.TheVariants.{Ward}
+use Rattle.exh_walk.specs.declared.event.Event.{Event}
+use Rattle.exh_walk.specs.declared.event.Event.TheVariants.{Split, Merge}
+use Rattle.exh_walk.specs.declared.outcome.Outcome.{Outcome}
+use Rattle.exh_walk.specs.declared.step_fault.StepFault.{StepFault}
+use Rattle.exh_walk.specs.declared.step_fault.StepFault.TheVariants.{Ward}
 use Rattle.exh_world.specs.WorldListLemmas.{map_there}
 
 module _ {K : Type 0} (pseudokey_of : K → List ℕ → ℕ) (old : WorldState K) where

@@ -18,8 +18,8 @@ use Rattle.exh_world.specs.NewWorld.{new_world}
 use Rattle.exh_world.specs.Sound.{LeadsRight, LeadsRightIn, IsWardOf, IsSoundWorld}
 use Rattle.exh_world.specs.World.{WorldState}
 use Rattle.exh_world.specs.InFlight.{Requests}
-use Rattle.exh_settings.specs.Config.{file_settings}
-use Rattle.exh_settings.specs.declared.config.Config.{Config}
+use Rattle.exh_page.specs.Config.{file_settings}
+use Rattle.exh_page.specs.declared.config.Config.{Config}
 use Rattle.exh_world.specs.WorldListLemmas.{mapped_is, numbered_is, numbered_none}
 use Rattle.exh_world.proofs.ToldTruly.{new_told}
 

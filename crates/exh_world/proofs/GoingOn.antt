@@ -14,22 +14,22 @@ use Rattle.exh_ward.specs.HopTable.{HopOf}
 use Rattle.exh_ward.specs.WardState.{WardState, own_prefix}
 use Rattle.exh_ward.specs.declared.hop.Hop.TheVariants as hops
 use Rattle.exh_ward.specs.Distance.{IsDistance}
-use Rattle.exh_route.specs.DistanceLaws.{StepsAddChanges}
-use Rattle.exh_route.specs.RouteLaws.{CanGoOn, MovesComeNearer, RunsKeepWardsSound}
+use Rattle.exh_walk.specs.DistanceLaws.{StepsAddChanges}
+use Rattle.exh_walk.specs.RouteLaws.{CanGoOn, MovesComeNearer, RunsKeepWardsSound}
 use Rattle.exh_world.specs.StepEffectLemmas.{hopped_step, on_effect, on_refusal}
 use Rattle.exh_world.specs.InFlight.{request_named, requests_after}
 use Rattle.exh_world.specs.WorldLaws.{StepsKeepWorldsSound}
-use Rattle.exh_event.specs.EventProgress.{hop_in, Progress, Done, Moved, MustSplit, Stray, hop_outcome}
+use Rattle.exh_walk.specs.EventProgress.{hop_in, Progress, Done, Moved, MustSplit, Stray, hop_outcome}
 use Rattle.exh_world.specs.RequestLemmas.{all_named}
 use Rattle.exh_world.specs.WorldRun.{Moment, IsRun}
 use Rattle.exh_world.specs.Sound.{IsOnTheWay, IsSoundWorld}
 use Rattle.exh_world.specs.Step.{HasHopped, HasEffect, Step}
 use Rattle.exh_world.specs.World.{WorldState, changes_in}
-use Rattle.exh_event.specs.declared.event.Event.{Event}
-use Rattle.exh_event.specs.declared.event.Event.TheVariants.{Hop as HopOn}
-use Rattle.exh_event.specs.declared.outcome.Outcome.{Outcome}
+use Rattle.exh_walk.specs.declared.event.Event.{Event}
+use Rattle.exh_walk.specs.declared.event.Event.TheVariants.{Hop as HopOn}
+use Rattle.exh_walk.specs.declared.outcome.Outcome.{Outcome}
 use Rattle.exh_world.specs.declared.request.Request.{Request}
-use Rattle.exh_event.specs.declared.step_fault.StepFault.{StepFault}
+use Rattle.exh_walk.specs.declared.step_fault.StepFault.{StepFault}
 use Rattle.exh_world.specs.Counted.{moves_by, moves_over, IsAway, LeavesOpen, GoesOn}
 use Rattle.exh_world.proofs.NamedRequests.{named_push, named_else, named_on}
 use Rattle.exh_world.proofs.SoundKept.{count_of}

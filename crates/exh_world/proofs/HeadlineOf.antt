@@ -15,14 +15,14 @@ use Rattle.exh_world.specs.WorldRun.{Moment, IsRun, known_by, known_at_end, answ
 use Rattle.exh_world.specs.Sound.{IsSoundWorld}
 use Rattle.exh_world.specs.Step.{HasJoined, HasHopped, HasEffect, Step}
 use Rattle.exh_world.specs.World.{WorldState, numbered}
-use Rattle.exh_event.specs.declared.event.Event.{Event}
-use Rattle.exh_event.specs.declared.event.Event.TheVariants.{Combine}
-use Rattle.exh_event.specs.declared.outcome.Outcome.{Outcome}
-use Rattle.exh_event.specs.declared.outcome.Outcome.TheVariants.{Hopped}
-use Rattle.exh_event.specs.EventProgress.{Progress, Done, Moved, MustSplit, Stray, hop_outcome}
+use Rattle.exh_walk.specs.declared.event.Event.{Event}
+use Rattle.exh_walk.specs.declared.event.Event.TheVariants.{Combine}
+use Rattle.exh_walk.specs.declared.outcome.Outcome.{Outcome}
+use Rattle.exh_walk.specs.declared.outcome.Outcome.TheVariants.{Hopped}
+use Rattle.exh_walk.specs.EventProgress.{Progress, Done, Moved, MustSplit, Stray, hop_outcome}
 use Rattle.exh_ward.specs.declared.hop.Hop.TheVariants as hops
-use Rattle.exh_event.specs.declared.step_fault.StepFault.{StepFault}
-use Rattle.exh_event.specs.declared.turn.Turn.{Turn}
+use Rattle.exh_walk.specs.declared.step_fault.StepFault.{StepFault}
+use Rattle.exh_walk.specs.declared.turn.Turn.{Turn}
 use Rattle.exh_world.specs.StepEffectLemmas.{on_effect}
 use Rattle.exh_world.proofs.Known.{IsKnown, own_sets, set_of}
 use Rattle.exh_world.specs.WorldListLemmas.{numbered_here}

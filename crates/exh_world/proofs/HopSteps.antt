@@ -9,17 +9,17 @@ use Rattle.exh_ward.specs.HopTable.{HopOf}
 use Rattle.exh_ward.specs.WardState.{WardState, IsSoundWard, LeavesAfter, own_prefix}
 use Rattle.exh_ward.specs.declared.hop.Hop.{Hop}
 use Rattle.exh_ward.specs.declared.hop.Hop.TheVariants.{Done, Moved, MustSplit, Stray}
-use Rattle.exh_route.specs.RouteLaws.{MovesComeNearer}
+use Rattle.exh_walk.specs.RouteLaws.{MovesComeNearer}
 use Rattle.exh_world.specs.InFlight.{HasRoom, Requests, request_named, requests_after}
 use Rattle.exh_world.specs.WorldKept.{IsKeptWorld}
 use Rattle.exh_world.specs.WorldLaws.{StepsKeepWorldsSound}
 use Rattle.exh_world.specs.Sound.{IsWardOf, IsOnTheWay}
 use Rattle.exh_world.specs.Step.{HasEffect, HasHopped, ReachesInto}
 use Rattle.exh_world.specs.StepEffectLemmas.{hopped_step}
-use Rattle.exh_event.specs.EventProgress.{hop_in, progress_with, Progress, hop_outcome}
+use Rattle.exh_walk.specs.EventProgress.{hop_in, progress_with, Progress, hop_outcome}
 use Rattle.exh_world.specs.RequestProgress.{bound_in, progress_of}
 use Rattle.exh_world.specs.World.{WorldState, changes_in}
-use Rattle.exh_event.specs.declared.event.Event.TheVariants.{Hop as HopOn}
+use Rattle.exh_walk.specs.declared.event.Event.TheVariants.{Hop as HopOn}
 use Rattle.exh_world.specs.declared.request.Request.{Request}
 use Rattle.exh_world.specs.declared.world.World.TheInside.{Inside}
 use Rattle.exh_world.proofs.InsideWorld.{with_ward, world_of}

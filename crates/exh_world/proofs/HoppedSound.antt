@@ -17,9 +17,9 @@ use Rattle.exh_ward.specs.declared.hop.Hop.TheVariants.{Done, Moved, Stray}
 use Rattle.exh_calls.specs.declared.reply.Reply.{Reply}
 use Rattle.exh_ward.specs.AnswerLemmas.{places_answered}
 use Rattle.exh_ward.specs.Distance.{IsDistance}
-use Rattle.exh_route.specs.DistanceLaws.{IsTableWithin, StepsAddChanges}
-use Rattle.exh_route.specs.RouteLaws.{CanGoOn, MovesComeNearer}
-use Rattle.exh_route.specs.WardRun.{HopAt}
+use Rattle.exh_walk.specs.DistanceLaws.{IsTableWithin, StepsAddChanges}
+use Rattle.exh_walk.specs.RouteLaws.{CanGoOn, MovesComeNearer}
+use Rattle.exh_walk.specs.WardRun.{HopAt}
 use Rattle.exh_world.specs.InFlight.{Requests, request_named, requests_after}
 use Rattle.exh_world.specs.Sound.{IsWardOf, IsOnTheWay, IsSoundWorld}
 use Rattle.exh_world.specs.World.{WorldState}

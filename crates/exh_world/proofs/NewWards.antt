@@ -8,8 +8,8 @@ use Rattle.exh_ward.specs.WardState.{IsSoundWard}
 use Rattle.exh_prefix.specs.declared.prefix.TheConstants.{WARD_BITS_LIMIT}
 use Rattle.exh_ward.specs.NewWards.{new_ward}
 use Rattle.exh_world.specs.NewWorld.{new_world}
-use Rattle.exh_settings.specs.Config.{file_settings}
-use Rattle.exh_settings.specs.declared.config.Config.{Config}
+use Rattle.exh_page.specs.Config.{file_settings}
+use Rattle.exh_page.specs.declared.config.Config.{Config}
 use Rattle.exh_world.proofs.FreshWorld.{AreSoundWards}
 use Rattle.exh_world.specs.WorldListLemmas.{mapped_is}
 

@@ -29,17 +29,17 @@ use Rattle.exh_world.specs.HeadlineLaws.{AreWorldsOf, RunsGoStepByStep, LeavesTo
 use Rattle.exh_world.specs.WorldRun.{Moment, IsRun, Told, known_by, known_at_end, Answered, answered_by, answered_at, answered_in, prefix_of, prefix_at, journal_entry_of}
 use Rattle.exh_world.specs.Step.{HasHopped, HasEffect, Step}
 use Rattle.exh_world.specs.World.{WorldState, numbered, current_leaves, changes_in, map_in}
-use Rattle.exh_event.specs.declared.event.Event.{Event}
-use Rattle.exh_event.specs.declared.event.Event.TheVariants.{Hop as HopOn, Combine}
-use Rattle.exh_event.specs.declared.outcome.Outcome.{Outcome}
-use Rattle.exh_event.specs.declared.outcome.Outcome.TheVariants.{Hopped, Replied, Joined}
-use Rattle.exh_event.specs.EventProgress as progresses
-use Rattle.exh_event.specs.EventProgress.{Progress, hop_outcome}
+use Rattle.exh_walk.specs.declared.event.Event.{Event}
+use Rattle.exh_walk.specs.declared.event.Event.TheVariants.{Hop as HopOn, Combine}
+use Rattle.exh_walk.specs.declared.outcome.Outcome.{Outcome}
+use Rattle.exh_walk.specs.declared.outcome.Outcome.TheVariants.{Hopped, Replied, Joined}
+use Rattle.exh_walk.specs.EventProgress as progresses
+use Rattle.exh_walk.specs.EventProgress.{Progress, hop_outcome}
 use Rattle.exh_ward.specs.declared.hop.Hop.{Hop}
 use Rattle.exh_ward.specs.declared.hop.Hop.TheVariants.{Done, Moved, MustSplit, Stray}
 use Rattle.exh_world.specs.declared.request.Request.{Request}
-use Rattle.exh_event.specs.declared.step_fault.StepFault.{StepFault}
-use Rattle.exh_event.specs.declared.turn.Turn.{Turn}
+use Rattle.exh_walk.specs.declared.step_fault.StepFault.{StepFault}
+use Rattle.exh_walk.specs.declared.turn.Turn.{Turn}
 use Rattle.exh_world.proofs.CopiesTold.{numbered_mapped, and_too, told_along, told_since, with_notices, more_told}
 
 module _ {K : Type 0} (pseudokey_of : K → List ℕ → ℕ) where

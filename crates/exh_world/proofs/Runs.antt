@@ -14,10 +14,10 @@ use Rattle.exh_world.specs.WorldRun.{Moment, IsRun}
 use Rattle.exh_world.specs.Sound.{IsSoundWorld}
 use Rattle.exh_world.specs.Step.{Step}
 use Rattle.exh_world.specs.World.{WorldState}
-use Rattle.exh_event.specs.declared.event.Event.{Event}
-use Rattle.exh_event.specs.declared.outcome.Outcome.{Outcome}
-use Rattle.exh_event.specs.declared.step_fault.StepFault.{StepFault}
-use Rattle.exh_event.specs.declared.turn.Turn.{Turn}
+use Rattle.exh_walk.specs.declared.event.Event.{Event}
+use Rattle.exh_walk.specs.declared.outcome.Outcome.{Outcome}
+use Rattle.exh_walk.specs.declared.step_fault.StepFault.{StepFault}
+use Rattle.exh_walk.specs.declared.turn.Turn.{Turn}
 
 -- the turns so far, of the events so far, led from the start to where the world is now
 pub record HasRun {K : Type 0} (pseudokey_of : K → List ℕ → ℕ) (start : WorldState K) (events : List Event) (turns : List Turn) (now : WorldState K) : Type 0 where

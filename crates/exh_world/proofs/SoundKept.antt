@@ -18,7 +18,7 @@ use Rattle.exh_prefix.specs.Leading.{ward_prefix}
 use Rattle.exh_legal.specs.LegalPlaceLemmas.{page_kept, below_kept}
 use Rattle.exh_ward.specs.WardState.{WardState}
 use Rattle.exh_ward.specs.Distance.{IsDistance}
-use Rattle.exh_route.specs.DistanceLaws.{IsDistanceUpTo}
+use Rattle.exh_walk.specs.DistanceLaws.{IsDistanceUpTo}
 use Rattle.exh_world.specs.InFlight.{Requests}
 use Rattle.exh_world.specs.Sound.{LeadsRight, IsWardOf, LeadsRightIn, IsOnTheWay, IsSoundWorld}
 use Rattle.exh_world.specs.Tables.{IsToldTruly}

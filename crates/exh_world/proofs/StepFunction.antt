@@ -21,22 +21,22 @@ use Rattle.exh_ward.specs.declared.hop.Hop.{Hop}
 use Rattle.exh_ward.specs.declared.hop.Hop.TheVariants.{Done, Moved, MustSplit, Stray}
 use Rattle.exh_ward.specs.declared.ward_fault.WardFault.{WardFault}
 use Rattle.exh_ward.specs.declared.ward_fault.WardFault.TheVariants.{Memory, Page}
-use Rattle.exh_route.specs.DistanceFunction.{distance_of}
-use Rattle.exh_route.specs.RouteLaws.{DistancesAreComputed}
+use Rattle.exh_walk.specs.DistanceFunction.{distance_of}
+use Rattle.exh_walk.specs.RouteLaws.{DistancesAreComputed}
 use Rattle.exh_world.specs.InFlight.{requests_after}
-use Rattle.exh_event.specs.EventProgress.{hop_in, Progress, hop_outcome}
+use Rattle.exh_walk.specs.EventProgress.{hop_in, Progress, hop_outcome}
 use Rattle.exh_world.specs.WorldLaws.{HasVersionOfWord, IsComputed}
 use Rattle.exh_world.specs.Sound.{IsSoundWorld}
 use Rattle.exh_world.specs.Step.{pseudokey_in, request_begun, IsRefused, HasBegun, HasHopped, HasChanged, HasTaken, HasSent, HasJoined, HasRestarted, HasEffect, Step}
 use Rattle.exh_world.specs.StepFunction.{Stepped, pages_in, request_at, request_from, begun, ward_after_hop, hopped, after_change, with_copy, step_of, result_of, world_after}
 use Rattle.exh_world.specs.World.{WorldState, changes_in, numbered, issued_in}
-use Rattle.exh_event.specs.declared.event.Event.{Event}
-use Rattle.exh_event.specs.declared.event.Event.TheVariants.{Begin, Hop as HopOn, Split, Merge, Deliver, Send, Combine, Restart}
-use Rattle.exh_event.specs.declared.outcome.Outcome.{Outcome}
-use Rattle.exh_event.specs.declared.outcome.Outcome.TheVariants.{Begun, Changed, Taken, Sent, Joined, Restarted}
+use Rattle.exh_walk.specs.declared.event.Event.{Event}
+use Rattle.exh_walk.specs.declared.event.Event.TheVariants.{Begin, Hop as HopOn, Split, Merge, Deliver, Send, Combine, Restart}
+use Rattle.exh_walk.specs.declared.outcome.Outcome.{Outcome}
+use Rattle.exh_walk.specs.declared.outcome.Outcome.TheVariants.{Begun, Changed, Taken, Sent, Joined, Restarted}
 use Rattle.exh_world.specs.declared.request.Request.{Request}
-use Rattle.exh_event.specs.declared.step_fault.StepFault.{StepFault}
-use Rattle.exh_event.specs.declared.step_fault.StepFault.TheVariants.{NameTaken, NoCopy, NoRequest, NoWard, NoNotice, NoTable, Ward}
+use Rattle.exh_walk.specs.declared.step_fault.StepFault.{StepFault}
+use Rattle.exh_walk.specs.declared.step_fault.StepFault.TheVariants.{NameTaken, NoCopy, NoRequest, NoWard, NoNotice, NoTable, Ward}
 use Rattle.exh_world.specs.StepEffectLemmas.{on_effect}
 use Rattle.exh_world.proofs.WardChanges.{memory_of}
 

@@ -24,8 +24,8 @@ use Rattle.exh_ward.specs.declared.hop.Hop.TheVariants.{Done, Moved, MustSplit, 
 use Rattle.exh_ward.specs.declared.ward_fault.WardFault.{WardFault}
 use Rattle.exh_ward.specs.declared.ward_fault.WardFault.TheVariants.{Page}
 use Rattle.exh_ward.specs.Distance.{IsDistance}
-use Rattle.exh_route.specs.DistanceFunction.{distance_of}
-use Rattle.exh_route.specs.RouteLaws.{CanGoOn, DistancesAreComputed, GetsGoHome}
+use Rattle.exh_walk.specs.DistanceFunction.{distance_of}
+use Rattle.exh_walk.specs.RouteLaws.{CanGoOn, DistancesAreComputed, GetsGoHome}
 use Rattle.exh_world.specs.InFlight.{request_named, requests_after}
 use Rattle.exh_world.specs.Sound.{IsWardOf, IsOnTheWay, IsSoundWorld}
 use Rattle.exh_world.specs.RequestProgress.{bound_in, progress_of}
@@ -33,11 +33,11 @@ use Rattle.exh_world.specs.Step.{pseudokey_in, HasHopped, Step}
 use Rattle.exh_world.specs.StepEffectLemmas.{hopped_step}
 use Rattle.exh_world.specs.StepFunction.{Stepped, pages_in, request_from, begun, ward_after_hop, hopped, after_change, with_copy, step_of, result_of, world_after}
 use Rattle.exh_world.specs.World.{WorldState, numbered, issued_in}
-use Rattle.exh_event.specs.declared.event.Event.{Event}
-use Rattle.exh_event.specs.declared.event.Event.TheVariants.{Begin, Hop as HopOn, Split, Merge, Deliver, Send, Combine, Restart}
-use Rattle.exh_event.specs.declared.outcome.Outcome.TheVariants.{Taken, Sent, Joined, Restarted}
+use Rattle.exh_walk.specs.declared.event.Event.{Event}
+use Rattle.exh_walk.specs.declared.event.Event.TheVariants.{Begin, Hop as HopOn, Split, Merge, Deliver, Send, Combine, Restart}
+use Rattle.exh_walk.specs.declared.outcome.Outcome.TheVariants.{Taken, Sent, Joined, Restarted}
 use Rattle.exh_world.specs.declared.request.Request.{Request}
-use Rattle.exh_event.specs.declared.step_fault.StepFault.TheVariants.{NameTaken, NoCopy, NoRequest, NoWard, NoNotice, NoTable}
+use Rattle.exh_walk.specs.declared.step_fault.StepFault.TheVariants.{NameTaken, NoCopy, NoRequest, NoWard, NoNotice, NoTable}
 use Rattle.exh_world.specs.RequestLemmas.{all_named}
 use Rattle.exh_world.proofs.BegunSound.{ward_begins, ward_there, walk_ends_below}
 use Rattle.exh_world.proofs.HopSteps.{hop_of_progress}

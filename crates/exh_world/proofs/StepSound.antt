@@ -12,20 +12,20 @@ use Rattle.exh_calls.specs.declared.call.Call.{Call}
 use Rattle.exh_ward.specs.declared.hop.Hop.{Hop}
 use Rattle.exh_ward.specs.declared.hop.Hop.TheVariants.{Done, Moved, MustSplit, Stray}
 use Rattle.exh_ward.specs.Distance.{IsDistance}
-use Rattle.exh_route.specs.DistanceLaws.{StepsAddChanges}
-use Rattle.exh_route.specs.RouteLaws.{MovesComeNearer}
+use Rattle.exh_walk.specs.DistanceLaws.{StepsAddChanges}
+use Rattle.exh_walk.specs.RouteLaws.{MovesComeNearer}
 use Rattle.exh_world.specs.InFlight.{Requests, request_named, requests_after}
 use Rattle.exh_world.specs.WorldLaws.{AreWardsSound}
 use Rattle.exh_world.specs.Sound.{IsOnTheWay, IsSoundWorld}
 use Rattle.exh_world.specs.Step.{pseudokey_in, request_begun, HasBegun, HasHopped, HasChanged, HasTaken, HasSent, HasJoined, HasRestarted, HasEffect, Step}
 use Rattle.exh_prefix.specs.Leading.{ward_of}
-use Rattle.exh_event.specs.EventProgress.{hop_in, Progress}
-use Rattle.exh_event.specs.EventProgress as progresses
+use Rattle.exh_walk.specs.EventProgress.{hop_in, Progress}
+use Rattle.exh_walk.specs.EventProgress as progresses
 use Rattle.exh_world.specs.World.{WorldState, changes_in}
-use Rattle.exh_event.specs.declared.event.Event.{Event}
-use Rattle.exh_event.specs.declared.outcome.Outcome.{Outcome}
+use Rattle.exh_walk.specs.declared.event.Event.{Event}
+use Rattle.exh_walk.specs.declared.outcome.Outcome.{Outcome}
 use Rattle.exh_world.specs.declared.request.Request.{Request}
-use Rattle.exh_event.specs.declared.step_fault.StepFault.{StepFault}
+use Rattle.exh_walk.specs.declared.step_fault.StepFault.{StepFault}
 use Rattle.exh_world.specs.StepEffectLemmas.{on_effect, on_refusal}
 use Rattle.exh_world.specs.RequestLemmas.{all_named}
 use Rattle.exh_world.proofs.BegunSound.{begun_sound}

@@ -4,7 +4,7 @@ use Rattle.std.specs.List.{AllByRecursion}
 use Rattle.std.proofs.lemmas.List.Elements.{All-from_recursion}
 use Rattle.exh_table.specs.Table.{TableMap, IsTableOf}
 use Rattle.exh_ward.specs.WardState.{WardState}
-use Rattle.exh_route.specs.RouteLaws.{RunsKeepWardsSound}
+use Rattle.exh_walk.specs.RouteLaws.{RunsKeepWardsSound}
 use Rattle.exh_world.specs.Current.{IsCurrentIn}
 use Rattle.exh_world.specs.Headline.{IsHeadline}
 use Rattle.exh_world.specs.WorldLaws.{AreWardsSound, RunsCarryTheHeadline, StepsKeepWorldsSound}

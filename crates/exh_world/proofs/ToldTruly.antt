@@ -25,11 +25,11 @@ use Rattle.exh_world.specs.WorldRun.{Told}
 use Rattle.exh_world.specs.Sound.{IsSoundWorld}
 use Rattle.exh_world.specs.Step.{HasEffect, Step}
 use Rattle.exh_world.specs.World.{WorldState, changes_in, issued_in, numbered}
-use Rattle.exh_settings.specs.Config.{file_settings}
-use Rattle.exh_settings.specs.declared.config.Config.{Config}
-use Rattle.exh_event.specs.declared.event.Event.{Event}
-use Rattle.exh_event.specs.declared.outcome.Outcome.{Outcome}
-use Rattle.exh_event.specs.declared.step_fault.StepFault.{StepFault}
+use Rattle.exh_page.specs.Config.{file_settings}
+use Rattle.exh_page.specs.declared.config.Config.{Config}
+use Rattle.exh_walk.specs.declared.event.Event.{Event}
+use Rattle.exh_walk.specs.declared.outcome.Outcome.{Outcome}
+use Rattle.exh_walk.specs.declared.step_fault.StepFault.{StepFault}
 use Rattle.exh_world.specs.Current.{IsCurrentIn}
 use Rattle.exh_world.specs.Tables.{TellsTruly, ComesFrom, IsToldTruly}
 use Rattle.exh_world.proofs.NoticeEntries.{told_up, join_up, notice_up, above_notice, comes_with}

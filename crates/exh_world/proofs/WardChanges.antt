@@ -13,10 +13,10 @@ use Rattle.exh_prefix.specs.PrefixListLemmas.{set_same}
 use Rattle.exh_world.specs.Sound.{IsSoundWorld}
 use Rattle.exh_world.specs.Step.{HasChanged, CountsFailure, IsChangeRefused, LeavesRefused, Step}
 use Rattle.exh_world.specs.World.{WorldState}
-use Rattle.exh_event.specs.declared.event.Event.{Event}
-use Rattle.exh_event.specs.declared.outcome.Outcome.{Outcome}
-use Rattle.exh_event.specs.declared.step_fault.StepFault.{StepFault}
-use Rattle.exh_event.specs.declared.step_fault.StepFault.TheVariants.{Ward}
+use Rattle.exh_walk.specs.declared.event.Event.{Event}
+use Rattle.exh_walk.specs.declared.outcome.Outcome.{Outcome}
+use Rattle.exh_walk.specs.declared.step_fault.StepFault.{StepFault}
+use Rattle.exh_walk.specs.declared.step_fault.StepFault.TheVariants.{Ward}
 use Rattle.exh_world.proofs.FailureCounted.{counted_sound}
 use Rattle.exh_world.proofs.WardsLeft.{wards_left}
 

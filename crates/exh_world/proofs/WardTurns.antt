@@ -11,17 +11,17 @@ use Rattle.exh_ward.specs.WardState.{WardState, IsSoundWard, LeavesAfter}
 use Rattle.exh_ward.specs.declared.hop.Hop.{Hop}
 use Rattle.exh_ward.specs.declared.hop.Hop.TheVariants.{Done, Moved, MustSplit, Stray}
 use Rattle.exh_ward.specs.declared.ward_fault.WardFault.TheVariants.{Page}
-use Rattle.exh_route.specs.RouteLaws.{RunsKeepWardsSound}
-use Rattle.exh_route.specs.WardRun.{WardEvent, HopAt, SplitAt, MergeAt, WardStep, changes_by}
+use Rattle.exh_walk.specs.RouteLaws.{RunsKeepWardsSound}
+use Rattle.exh_walk.specs.WardRun.{WardEvent, HopAt, SplitAt, MergeAt, WardStep, changes_by}
 use Rattle.exh_world.specs.StepEffectLemmas.{on_effect, on_refusal}
 use Rattle.exh_world.specs.WorldLaws.{AreWardsSound, StepsKeepWorldsSound}
-use Rattle.exh_event.specs.EventProgress.{hop_in, Progress}
+use Rattle.exh_walk.specs.EventProgress.{hop_in, Progress}
 use Rattle.exh_world.specs.Sound.{IsSoundWorld}
 use Rattle.exh_world.specs.Step.{HasHopped, HasEffect, Step}
 use Rattle.exh_world.specs.World.{WorldState}
-use Rattle.exh_event.specs.declared.event.Event.{Event}
-use Rattle.exh_event.specs.declared.outcome.Outcome.{Outcome}
-use Rattle.exh_event.specs.declared.step_fault.StepFault.{StepFault}
+use Rattle.exh_walk.specs.declared.event.Event.{Event}
+use Rattle.exh_walk.specs.declared.outcome.Outcome.{Outcome}
+use Rattle.exh_walk.specs.declared.step_fault.StepFault.{StepFault}
 
 -- the ward's notices and table are as they were, or it has one notice more, which its table took
 abbrev pub Tells : {K : Type 0} → WardState K → WardState K → Type 0

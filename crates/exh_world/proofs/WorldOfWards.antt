@@ -26,7 +26,7 @@ use Rattle.exh_prefix.specs.Leading.{ward_prefix}
 use Rattle.exh_prefix.specs.LeadingLemmas.{one_front}
 use Rattle.exh_ward.specs.WardState.{WardState, IsSoundWard, notices_above}
 use Rattle.exh_prefix.specs.declared.prefix.TheConstants.{WARD_BITS_LIMIT}
-use Rattle.exh_settings.specs.declared.config.Config.{Config}
+use Rattle.exh_page.specs.declared.config.Config.{Config}
 use Rattle.exh_world.specs.InFlight.{Requests}
 use Rattle.exh_world.specs.WorldKept.{IsKeptWorld}
 use Rattle.exh_world.specs.WorldListLemmas.{map_from, map_there, numbered_is, numbered_none}

@@ -5,13 +5,13 @@ use Rattle.exh_table.specs.Table.{TableMap}
 use Rattle.exh_calls.specs.declared.call.Call.{Call}
 use Rattle.exh_ward.specs.WardState.{WardState, own_prefix}
 use Rattle.exh_ward.specs.Distance.{IsDistance, live_pages}
-use Rattle.exh_route.specs.DistanceLaws.{IsTableWithin}
+use Rattle.exh_walk.specs.DistanceLaws.{IsTableWithin}
 use Rattle.exh_world.specs.InFlight.{request_named}
 use Rattle.exh_world.specs.Sound.{IsSoundWorld}
 use Rattle.exh_world.specs.Step.{Step}
 use Rattle.exh_world.specs.World.{WorldState, changes_in, numbered}
-use Rattle.exh_event.specs.declared.event.Event.TheVariants.{Begin}
-use Rattle.exh_event.specs.declared.outcome.Outcome.TheVariants.{Begun}
+use Rattle.exh_walk.specs.declared.event.Event.TheVariants.{Begin}
+use Rattle.exh_walk.specs.declared.outcome.Outcome.TheVariants.{Begun}
 use Rattle.exh_world.specs.declared.request.Request.{Request}
 
 -- what the request keeps is the distance of its page; it is few, and where the copy's table is in the ward that of the ward's start table and its first m

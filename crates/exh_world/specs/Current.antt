@@ -12,9 +12,9 @@ use Rattle.exh_world.specs.WorldRun.{Moment, IsRun}
 use Rattle.exh_world.specs.Sound.{IsSoundWorld}
 use Rattle.exh_world.specs.Step.{Step, pseudokey_in, request_begun}
 use Rattle.exh_world.specs.World.{WorldState, changes_in, numbered}
-use Rattle.exh_event.specs.declared.event.Event.TheVariants.{Begin, Hop as HopOn}
-use Rattle.exh_event.specs.declared.outcome.Outcome.TheVariants.{Begun}
-use Rattle.exh_event.specs.EventProgress.{Progress, Done, MustSplit, hop_outcome}
+use Rattle.exh_walk.specs.declared.event.Event.TheVariants.{Begin, Hop as HopOn}
+use Rattle.exh_walk.specs.declared.outcome.Outcome.TheVariants.{Begun}
+use Rattle.exh_walk.specs.EventProgress.{Progress, Done, MustSplit, hop_outcome}
 use Rattle.exh_world.specs.declared.request.Request.{Request}
 use Rattle.exh_world.specs.Counted.{AllLeaveOpen}
 

@@ -10,10 +10,10 @@ use Rattle.exh_prefix.specs.Leading.{ward_prefix}
 use Rattle.exh_calls.specs.History.{IsHistory, map_left}
 use Rattle.exh_world.specs.WorldRun.{Moment, IsRun, Told, known_by, known_at_end, Answered, answered_in, journal_entry_of}
 use Rattle.exh_world.specs.World.{WorldState, numbered, map_in}
-use Rattle.exh_event.specs.declared.event.Event.TheVariants.{Combine}
-use Rattle.exh_event.specs.declared.outcome.Outcome.TheVariants.{Hopped, Joined}
+use Rattle.exh_walk.specs.declared.event.Event.TheVariants.{Combine}
+use Rattle.exh_walk.specs.declared.outcome.Outcome.TheVariants.{Hopped, Joined}
 use Rattle.exh_ward.specs.declared.hop.Hop.TheVariants.{Stray}
-use Rattle.exh_event.specs.declared.turn.Turn.{Turn}
+use Rattle.exh_walk.specs.declared.turn.Turn.{Turn}
 
 -- what a copy has taken over the turns
 abbrev pub taken_by : {K : Type 0} → WorldState K → List Turn → ℕ → Told → Type 0

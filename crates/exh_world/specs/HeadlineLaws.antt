@@ -16,15 +16,15 @@ use Rattle.exh_world.specs.InFlight.{request_named}
 use Rattle.exh_world.specs.WorldRun.{Moment, answered_in, journal_entry_of}
 use Rattle.exh_world.specs.Step.{Step}
 use Rattle.exh_world.specs.World.{WorldState, numbered, current_leaves, map_in}
-use Rattle.exh_event.specs.declared.event.Event.{Event}
-use Rattle.exh_event.specs.declared.event.Event.TheVariants.{Hop, Deliver, Combine, Restart}
-use Rattle.exh_event.specs.declared.outcome.Outcome.{Outcome}
-use Rattle.exh_event.specs.declared.outcome.Outcome.TheVariants.{Hopped, Replied, Taken, Joined, Restarted}
+use Rattle.exh_walk.specs.declared.event.Event.{Event}
+use Rattle.exh_walk.specs.declared.event.Event.TheVariants.{Hop, Deliver, Combine, Restart}
+use Rattle.exh_walk.specs.declared.outcome.Outcome.{Outcome}
+use Rattle.exh_walk.specs.declared.outcome.Outcome.TheVariants.{Hopped, Replied, Taken, Joined, Restarted}
 use Rattle.exh_ward.specs.declared.hop.Hop.{Hop as HopType}
 use Rattle.exh_ward.specs.declared.hop.Hop.TheVariants.{Moved, MustSplit}
 use Rattle.exh_world.specs.declared.request.Request.{Request}
-use Rattle.exh_event.specs.declared.step_fault.StepFault.{StepFault}
-use Rattle.exh_event.specs.declared.turn.Turn.{Turn}
+use Rattle.exh_walk.specs.declared.step_fault.StepFault.{StepFault}
+use Rattle.exh_walk.specs.declared.turn.Turn.{Turn}
 
 -- ---- step by step
 

@@ -1,7 +1,7 @@
 -- of the crates below: events, and the settings of a world
-pub use Rattle.exh_event.specs.EventProgress
-pub use Rattle.exh_event.specs.StepFault
-pub use Rattle.exh_settings.specs.Config
+pub use Rattle.exh_walk.specs.EventProgress
+pub use Rattle.exh_walk.specs.StepFault
+pub use Rattle.exh_page.specs.Config
 pub mod InFlight
 pub mod Slots
 pub mod World

@@ -6,8 +6,8 @@ use Rattle.exh_table.specs.TableOrder.{table_join}
 use Rattle.exh_ward.specs.NewWards.{new_wards}
 use Rattle.exh_ward.specs.WardState.{WardState}
 use Rattle.exh_world.specs.World.{WorldState, changes_in, issued_in}
-use Rattle.exh_settings.specs.Config.{file_settings}
-use Rattle.exh_settings.specs.declared.config.Config.{Config}
+use Rattle.exh_page.specs.Config.{file_settings}
+use Rattle.exh_page.specs.declared.config.Config.{Config}
 
 -- no copy was told of a split, and nothing was sent or begun
 abbrev pub new_world : {K : Type 0} → Config K → WorldState K

@@ -11,11 +11,11 @@ use Rattle.exh_world.specs.Sound.{IsSoundWorld}
 use Rattle.exh_world.specs.Step.{pseudokey_in, request_begun}
 use Rattle.exh_world.specs.Taken.{HasTakenAll, turns_of}
 use Rattle.exh_world.specs.World.{WorldState, changes_in, numbered}
-use Rattle.exh_event.specs.declared.event.Event.TheVariants.{Begin, Hop as HopOn}
-use Rattle.exh_event.specs.declared.outcome.Outcome.TheVariants.{Begun, Replied}
-use Rattle.exh_event.specs.EventProgress.{Progress, hop_outcome}
+use Rattle.exh_walk.specs.declared.event.Event.TheVariants.{Begin, Hop as HopOn}
+use Rattle.exh_walk.specs.declared.outcome.Outcome.TheVariants.{Begun, Replied}
+use Rattle.exh_walk.specs.EventProgress.{Progress, hop_outcome}
 use Rattle.exh_world.specs.declared.request.Request.{Request}
-use Rattle.exh_event.specs.declared.turn.Turn.{Turn}
+use Rattle.exh_walk.specs.declared.turn.Turn.{Turn}
 
 -- ---- from any world of the run on
 

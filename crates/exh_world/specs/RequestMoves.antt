@@ -4,7 +4,7 @@ use Rattle.exh_world.specs.WorldLaws.{AreWardsSound}
 use Rattle.exh_world.specs.WorldRun.{Moment, IsRun, Answered, answered_in}
 use Rattle.exh_world.specs.Sound.{IsSoundWorld}
 use Rattle.exh_world.specs.World.{WorldState}
-use Rattle.exh_event.specs.declared.turn.Turn.{Turn}
+use Rattle.exh_walk.specs.declared.turn.Turn.{Turn}
 
 -- an answer tells the moves that its request had made, and as their bound the request's distance when begun with the changes in its ward since
 pub record IsBounded (answered : Answered) : Type 0 where

@@ -1,7 +1,7 @@
 -- How many moves a request may make, and what its hop comes to.
 use Rattle.std.specs.Prelude.{ℕ, ◌+◌, ◌-◌, length}
 use Rattle.exh_ward.specs.declared.hop.Hop.{Hop}
-use Rattle.exh_event.specs.EventProgress.{progress_with, Progress}
+use Rattle.exh_walk.specs.EventProgress.{progress_with, Progress}
 use Rattle.exh_world.specs.World.{WorldState, changes_in}
 use Rattle.exh_world.specs.declared.request.Request.{Request}
 

@@ -13,7 +13,7 @@ use Rattle.exh_calls.specs.Call.{key_of}
 use Rattle.exh_legal.specs.LegalLaws.{IsBelow}
 use Rattle.exh_ward.specs.WardState.{WardState, IsSoundWard}
 use Rattle.exh_ward.specs.Distance.{IsDistance}
-use Rattle.exh_route.specs.DistanceLaws.{IsTableWithin}
+use Rattle.exh_walk.specs.DistanceLaws.{IsTableWithin}
 use Rattle.exh_world.specs.RequestProgress.{bound_in}
 use Rattle.exh_world.specs.Tables.{IsToldTruly}
 use Rattle.exh_world.specs.World.{WorldState, changes_in, numbered}

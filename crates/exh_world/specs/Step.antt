@@ -16,18 +16,18 @@ use Rattle.exh_ward.specs.declared.ward_fault.WardFault.{WardFault}
 use Rattle.exh_ward.specs.declared.ward_fault.WardFault.TheVariants.{Memory, Page}
 use Rattle.exh_ward.specs.Distance.{IsDistance}
 use Rattle.exh_world.specs.InFlight.{request_named, requests_after}
-use Rattle.exh_event.specs.EventProgress.{Progress, hop_in}
-use Rattle.exh_event.specs.EventProgress as progresses
+use Rattle.exh_walk.specs.EventProgress.{Progress, hop_in}
+use Rattle.exh_walk.specs.EventProgress as progresses
 use Rattle.exh_world.specs.RequestProgress.{progress_of}
 use Rattle.exh_prefix.specs.Leading.{ward_of}
 use Rattle.exh_world.specs.World.{WorldState, numbered, changes_in, issued_in}
-use Rattle.exh_event.specs.declared.event.Event.{Event}
-use Rattle.exh_event.specs.declared.event.Event.TheVariants.{Begin, Hop as HopOn, Split, Merge, Deliver, Send, Combine, Restart}
-use Rattle.exh_event.specs.declared.outcome.Outcome.{Outcome}
-use Rattle.exh_event.specs.declared.outcome.Outcome.TheVariants.{Begun, Hopped, Replied, Changed, Taken, Sent, Joined, Restarted}
+use Rattle.exh_walk.specs.declared.event.Event.{Event}
+use Rattle.exh_walk.specs.declared.event.Event.TheVariants.{Begin, Hop as HopOn, Split, Merge, Deliver, Send, Combine, Restart}
+use Rattle.exh_walk.specs.declared.outcome.Outcome.{Outcome}
+use Rattle.exh_walk.specs.declared.outcome.Outcome.TheVariants.{Begun, Hopped, Replied, Changed, Taken, Sent, Joined, Restarted}
 use Rattle.exh_world.specs.declared.request.Request.{Request}
-use Rattle.exh_event.specs.declared.step_fault.StepFault.{StepFault}
-use Rattle.exh_event.specs.declared.step_fault.StepFault.TheVariants.{NameTaken, NoCopy, NoRequest, NoWard, NoNotice, NoTable, Ward}
+use Rattle.exh_walk.specs.declared.step_fault.StepFault.{StepFault}
+use Rattle.exh_walk.specs.declared.step_fault.StepFault.TheVariants.{NameTaken, NoCopy, NoRequest, NoWard, NoNotice, NoTable, Ward}
 
 -- the pseudokey of a call's key
 abbrev pub pseudokey_in : {K : Type 0} → (K → List ℕ → ℕ) → WorldState K → Call → ℕ

@@ -9,12 +9,12 @@ use Rattle.exh_ward.specs.WardState.{WardState}
 use Rattle.exh_ward.specs.declared.hop.Hop.TheVariants as hops
 use Rattle.exh_world.specs.Step.{HasBegun, HasHopped, HasChanged, HasTaken, HasSent, HasJoined, HasRestarted, HasEffect, Step}
 use Rattle.exh_world.specs.World.{WorldState}
-use Rattle.exh_event.specs.declared.event.Event.{Event}
-use Rattle.exh_event.specs.declared.event.Event.TheVariants.{Begin, Hop as HopOn, Split, Merge, Deliver, Send, Combine, Restart}
-use Rattle.exh_event.specs.declared.outcome.Outcome.{Outcome}
-use Rattle.exh_event.specs.declared.outcome.Outcome.TheVariants.{Begun, Hopped, Replied, Changed, Taken, Sent, Joined, Restarted}
-use Rattle.exh_event.specs.EventProgress.{Progress, Done, Moved, MustSplit, Stray, hop_outcome}
-use Rattle.exh_event.specs.declared.step_fault.StepFault.{StepFault}
+use Rattle.exh_walk.specs.declared.event.Event.{Event}
+use Rattle.exh_walk.specs.declared.event.Event.TheVariants.{Begin, Hop as HopOn, Split, Merge, Deliver, Send, Combine, Restart}
+use Rattle.exh_walk.specs.declared.outcome.Outcome.{Outcome}
+use Rattle.exh_walk.specs.declared.outcome.Outcome.TheVariants.{Begun, Hopped, Replied, Changed, Taken, Sent, Joined, Restarted}
+use Rattle.exh_walk.specs.EventProgress.{Progress, Done, Moved, MustSplit, Stray, hop_outcome}
+use Rattle.exh_walk.specs.declared.step_fault.StepFault.{StepFault}
 
 -- what a hop has done is a step to its outcome, and the other way round
 module _ {K : Type 0} (pseudokey_of : K → List ℕ → ℕ) (old : WorldState K) (name ward : ℕ) where

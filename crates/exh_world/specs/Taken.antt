@@ -12,10 +12,10 @@ use Rattle.exh_world.specs.WorldRun.{Moment, IsRun, Told}
 use Rattle.exh_world.specs.Sound.{IsSoundWorld}
 use Rattle.exh_world.specs.Step.{Step, pseudokey_in, request_begun}
 use Rattle.exh_world.specs.World.{WorldState, changes_in, numbered}
-use Rattle.exh_event.specs.declared.event.Event.TheVariants.{Begin, Hop as HopOn}
-use Rattle.exh_event.specs.declared.outcome.Outcome.TheVariants.{Begun}
-use Rattle.exh_event.specs.EventProgress.{Progress, hop_outcome}
-use Rattle.exh_event.specs.declared.turn.Turn.{Turn}
+use Rattle.exh_walk.specs.declared.event.Event.TheVariants.{Begin, Hop as HopOn}
+use Rattle.exh_walk.specs.declared.outcome.Outcome.TheVariants.{Begun}
+use Rattle.exh_walk.specs.EventProgress.{Progress, hop_outcome}
+use Rattle.exh_walk.specs.declared.turn.Turn.{Turn}
 
 -- over the turns the copy took each change of the ward: they are in the set of what it has taken
 pub record HasTakenAll {K : Type 0} (start : WorldState K) (turns : List Turn) (world : WorldState K) (copy number : ℕ) : Type 0 where

@@ -12,13 +12,13 @@ use Rattle.exh_calls.specs.declared.journal_entry.JournalEntry.{JournalEntry}
 use Rattle.exh_world.specs.InFlight.{request_named}
 use Rattle.exh_world.specs.Step.{Step}
 use Rattle.exh_world.specs.World.{WorldState, numbered, changes_in}
-use Rattle.exh_event.specs.declared.event.Event.{Event}
-use Rattle.exh_event.specs.declared.event.Event.TheVariants.{Hop as HopOn, Deliver, Send, Combine, Restart}
-use Rattle.exh_event.specs.declared.outcome.Outcome.{Outcome}
-use Rattle.exh_event.specs.declared.outcome.Outcome.TheVariants.{Replied, Taken, Sent, Joined, Restarted}
+use Rattle.exh_walk.specs.declared.event.Event.{Event}
+use Rattle.exh_walk.specs.declared.event.Event.TheVariants.{Hop as HopOn, Deliver, Send, Combine, Restart}
+use Rattle.exh_walk.specs.declared.outcome.Outcome.{Outcome}
+use Rattle.exh_walk.specs.declared.outcome.Outcome.TheVariants.{Replied, Taken, Sent, Joined, Restarted}
 use Rattle.exh_world.specs.declared.request.Request.{Request}
-use Rattle.exh_event.specs.declared.step_fault.StepFault.{StepFault}
-use Rattle.exh_event.specs.declared.turn.Turn.{Turn}
+use Rattle.exh_walk.specs.declared.step_fault.StepFault.{StepFault}
+use Rattle.exh_walk.specs.declared.turn.Turn.{Turn}
 
 -- a turn, with the worlds before and after it
 pub record Moment (K : Type 0) : Type 0 where

@@ -6,10 +6,10 @@ ghost use Rattle.exh_world.specs.WorldLaws.{NewWorldsAreSound, PageFaultsAreCoun
 use exh_calls::sharers_begin;
 use exh_keyer::Keyer;
 use exh_legal::{lone_pages_are_legal, right_links_lead_on, targets_lead_on, walks_name_homes};
-use exh_route::{distances_are_computed, gets_go_home, moves_come_nearer, steps_add_changes};
 use exh_table::{
     members_decide, one_notice_more_is_taken, own_entries_give_the_table, union_is_join,
 };
+use exh_walk::{distances_are_computed, gets_go_home, moves_come_nearer, steps_add_changes};
 use exh_ward::{
     answers_keep_legal, hops_are_computed, hops_have_outcomes, merges_are_computed,
     merges_have_outcomes, splits_are_computed, splits_have_outcomes,

@@ -2,8 +2,8 @@
 //! flight, with whatever may happen to them as an event.
 #![tactic(auto)]
 
-pub use exh_event::{Event, Outcome, StepFault, Turn};
-pub use exh_settings::Config;
+pub use exh_page::Config;
+pub use exh_walk::{Event, Outcome, StepFault, Turn};
 pub use headline_laws::{
     answers_come_from_the_one_leaf, combines_give_the_join, copies_take_notices, hops_lead_on,
     only_answers_change_the_map, replies_follow_the_answers_before, runs_go_step_by_step,

@@ -9,7 +9,7 @@ ghost use Rattle.exh_world.specs.Taken.{TakersAreCurrent, TakersBeginHome, Taker
 
 use crate::laws::{runs_carry_the_headline, steps_keep_worlds_sound};
 use exh_keyer::Keyer;
-use exh_route::{
+use exh_walk::{
     distances_are_few, late_tables_are_near, moves_come_nearer, one_distance,
     runs_keep_wards_sound_and_one_map, steps_add_changes, whole_tables_name_homes,
 };

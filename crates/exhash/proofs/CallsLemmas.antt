@@ -3,16 +3,16 @@ use Rattle.std.proofs.Common.{◌≡◌, ℕ, Bool, List, inl, inr, ap, ◌∙�
 use Rattle.exh_keyer.specs.declared.any_keyer.AnyKeyer.{AnyKeyer}
 use Rattle.exh_keyer.specs.Pseudokey.{any_pseudokey}
 use Rattle.exh_page.specs.KeyMap.{KeyMap}
-use Rattle.exh_settings.specs.declared.file_settings.FileSettings.{FileSettings}
-use Rattle.exh_file.specs.declared.placing.Stamps.{Stamps}
+use Rattle.exh_page.specs.declared.file_settings.FileSettings.{FileSettings}
+use Rattle.exh_map.specs.declared.Stamps.{Stamps}
 use Rattle.exh_calls.specs.declared.call.Call.{Call}
-use Rattle.exh_batch.specs.Batch.{map_after_all, map_then_all}
-use Rattle.exh_commit.specs.FilePages.{Leaves, LeavesAlone}
+use Rattle.exhash.specs.Batch.{map_after_all, map_then_all}
+use Rattle.exh_map.specs.FilePages.{Leaves, LeavesAlone}
 use Rattle.sqlite_disk.specs.declared.Disk.{Ghosts}
-use Rattle.exh_paged.specs.CallChange.{HasPairs, HasStamps, HasState, IsStampedOver, OfLegal}
-use Rattle.exh_paged.specs.CallsChange.{AreOldOrCalled, AreReplied}
-use Rattle.exh_walked.specs.PlacedLaws.{map_in}
-use Rattle.exh_paged.specs.declared.answered.Answered.{Answered}
+use Rattle.exhash.specs.CallChange.{HasPairs, HasStamps, HasState, IsStampedOver, OfLegal}
+use Rattle.exhash.specs.CallsChange.{AreOldOrCalled, AreReplied}
+use Rattle.exhash.specs.PlacedLaws.{map_in}
+use Rattle.exh_map.specs.declared.Answered.{Answered}
 use Rattle.exhash.specs.Commit.{AreStamps, IsCommittedAs, IsFileOf, IsOldOrCommitted, stamps_behind}
 
 module _ (settings : FileSettings AnyKeyer) (was : KeyMap) (own : ℕ) (old : List ℕ) (of : IsFileOf settings was own old) (calls : List Call) where

@@ -7,19 +7,19 @@ use Rattle.sqlite_wal.specs.Files.{seen_image}
 use Rattle.sqlite_wal.specs.Recovery.{Image}
 use Rattle.exh_page.specs.KeyMap.{KeyMap}
 use Rattle.exh_page.specs.declared.page.Page.{Page}
-use Rattle.exh_legal.specs.Pages.{map_of}
-use Rattle.exh_cells.specs.PlacedFile.{lows_of}
-use Rattle.exh_format.specs.PageFile.{pages_of}
-use Rattle.exh_commit.specs.FilePages.{Leaves, LeavesAlone, StandsFor}
-use Rattle.exh_file.specs.Draft.{DraftState, IsDraftSaving, IsGrown, IsSaving, bytes_in}
-use Rattle.exh_file.specs.FileChange.{HasMap}
-use Rattle.exh_file.specs.Opened.{AreWardsOf, OpenedState}
-use Rattle.exh_file.specs.Placing.{IsPlacedSaving, ordered_pages, placed_file, tables_of_all}
-use Rattle.exh_file.specs.declared.placing.Form.{Form}
-use Rattle.exh_file.specs.declared.placing.Placing.{Placing}
-use Rattle.exh_file.specs.declared.placing.Stamps.{Stamps}
-use Rattle.exh_paged.specs.CallChange.{HasPairs, HasStamps}
-use Rattle.exh_paged.specs.Saving.{IsOldOrSaved, IsSavedOver}
+use Rattle.exh_map.specs.Pages.{map_of}
+use Rattle.exh_map.specs.PlacedFile.{lows_of}
+use Rattle.exh_map.specs.PageFile.{pages_of}
+use Rattle.exh_map.specs.FilePages.{Leaves, LeavesAlone, StandsFor}
+use Rattle.exh_map.specs.Draft.{DraftState, IsDraftSaving, IsGrown, IsSaving, bytes_in}
+use Rattle.exh_map.specs.FileChange.{HasMap}
+use Rattle.exh_map.specs.Opened.{AreWardsOf, OpenedState}
+use Rattle.exh_map.specs.Placing.{IsPlacedSaving, ordered_pages, placed_file, tables_of_all}
+use Rattle.exh_map.specs.declared.Form.{Form}
+use Rattle.exh_map.specs.declared.Placing.{Placing}
+use Rattle.exh_map.specs.declared.Stamps.{Stamps}
+use Rattle.exhash.specs.CallChange.{HasPairs, HasStamps}
+use Rattle.exhash.specs.Saving.{IsOldOrSaved, IsSavedOver}
 use Rattle.exhash.specs.Commit.{Drafts, DraftsPlaces, HasPlaces, IsCommitted, IsOldOrCommitted, KeepsPlaces}
 use Rattle.exh_map.proofs.AgainLemmas.{all_pairs}
 use Rattle.exh_map.proofs.WholeMap.{whole_is}

@@ -1,15 +1,15 @@
 -- What an error of a commit tells of the file, by the fault that it comes of.
 use Rattle.std.proofs.Common.{ℕ, List, subst}
-use Rattle.exh_in_place.specs.Refusals.{IsOfFault, IsOfSaveFault}
-use Rattle.exh_in_place.specs.declared.refused.Refused.{Refused}
+use Rattle.exh_map.specs.Refusals.{IsOfFault, IsOfSaveFault}
+use Rattle.exh_map.specs.declared.Refused.{Refused}
 use Rattle.exh_map.specs.Told.{IsChanged, IsOfRefusal, IsUnsure}
 use Rattle.exh_map.specs.declared.store_error.StoreError.{StoreError}
-use Rattle.exh_paged.specs.FilesFault.{IsCause, IsUnchanged}
-use Rattle.exh_paged.specs.OwnLog.{HasOtherStamp}
-use Rattle.exh_paged.specs.SaveFilesFault as saves
-use Rattle.exh_paged.specs.declared.expected.Expected.TheVariants.{Stamp}
-use Rattle.exh_paged.specs.declared.files_fault.FilesFault.{FilesFault}
-use Rattle.exh_paged.specs.declared.save_files_fault.SaveFilesFault.{SaveFilesFault}
+use Rattle.exhash.specs.FilesFault.{IsCause, IsUnchanged}
+use Rattle.exhash.specs.OwnLog.{HasOtherStamp}
+use Rattle.exhash.specs.SaveFilesFault as saves
+use Rattle.exh_map.specs.declared.Expected.TheVariants.{Stamp}
+use Rattle.exh_map.specs.declared.FilesFault.{FilesFault}
+use Rattle.exh_map.specs.declared.SaveFilesFault.{SaveFilesFault}
 
 -- ---- nothing was changed
 

@@ -1,12 +1,12 @@
 -- The wards of a new file.
 use Rattle.std.proofs.Common.{◌≡◌, ℕ, ◌^◌, List, length, slice_get, Some, ap, ◌∙◌, subst}
 use Rattle.exh_keyer.specs.declared.any_keyer.AnyKeyer.{AnyKeyer}
-use Rattle.exh_settings.specs.FileSettings.{AreInRange}
-use Rattle.exh_settings.specs.declared.file_settings.FileSettings.{FileSettings}
-use Rattle.exh_ward.specs.NewWardLemmas.{count_of_new, new_ward_at}
-use Rattle.exh_ward.specs.NewWards.{new_ward, new_wards}
-use Rattle.exh_ward.specs.WardState.{WardState}
-use Rattle.exh_file.specs.Opened.{AreWardsOf, in_file}
+use Rattle.exh_page.specs.FileSettings.{AreInRange}
+use Rattle.exh_page.specs.declared.file_settings.FileSettings.{FileSettings}
+use Rattle.exh_map.specs.NewWardLemmas.{count_of_new, new_ward_at}
+use Rattle.exh_map.specs.NewWards.{new_ward, new_wards}
+use Rattle.exh_map.specs.WardState.{WardState}
+use Rattle.exh_map.specs.Opened.{AreWardsOf, in_file}
 
 module _ (settings : FileSettings AnyKeyer) (wards : List (WardState AnyKeyer)) (made : wards ≡ new_wards settings) where
   pub new_at : (number : ℕ) (ward : WardState AnyKeyer) → slice_get wards number ≡ Some ward → ward ≡ new_ward settings number

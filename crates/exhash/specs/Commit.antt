@@ -3,14 +3,14 @@ use Rattle.std.specs.Prelude.{◌≡◌, ◌⊎◌, Bool, ℕ, List, IsTrue, len
 use Rattle.exh_keyer.specs.declared.any_keyer.AnyKeyer.{AnyKeyer}
 use Rattle.exh_table.specs.Table.{TableMap}
 use Rattle.exh_page.specs.KeyMap.{KeyMap}
-use Rattle.exh_settings.specs.declared.file_settings.FileSettings.{FileSettings}
-use Rattle.exh_format.specs.Reading.{AreBytes}
-use Rattle.exh_cells.specs.LegalPlaced.{IsLegalPlacedFile}
-use Rattle.exh_cells.specs.PlacedFile.{PlacedFile, lows_of}
-use Rattle.exh_file.specs.Draft.{DraftState, IsDraftSaving}
-use Rattle.exh_file.specs.declared.placing.Stamps.{Stamps}
-use Rattle.exh_paged.specs.CallChange.{HasPairs, HasStamps, HasState}
-use Rattle.exh_walked.specs.PlacedLaws.{map_in}
+use Rattle.exh_page.specs.declared.file_settings.FileSettings.{FileSettings}
+use Rattle.exh_map.specs.Reading.{AreBytes}
+use Rattle.exh_map.specs.LegalPlaced.{IsLegalPlacedFile}
+use Rattle.exh_map.specs.PlacedFile.{PlacedFile, lows_of}
+use Rattle.exh_map.specs.Draft.{DraftState, IsDraftSaving}
+use Rattle.exh_map.specs.declared.Stamps.{Stamps}
+use Rattle.exhash.specs.CallChange.{HasPairs, HasStamps, HasState}
+use Rattle.exhash.specs.PlacedLaws.{map_in}
 
 -- the draft's page file has these pairs and stamps
 abbrev pub Drafts : KeyMap → Stamps → DraftState → Type 0

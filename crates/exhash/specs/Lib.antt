@@ -1,3 +1,31 @@
+pub use Rattle.exh_map.specs.FileChange
+pub use Rattle.exh_map.specs.FileLimits
+pub use Rattle.exh_map.specs.HomeLemmas
+pub use Rattle.exh_map.specs.InWardLemmas
+pub use Rattle.exh_map.specs.Opening
+pub use Rattle.exh_map.specs.Saved
+pub use Rattle.exh_map.specs.SplitLemmas
+pub use Rattle.exh_map.specs.TurnLemmas
+pub use Rattle.exh_map.specs.WardChange
+pub use Rattle.exh_map.specs.LegalBytes
+pub use Rattle.exh_map.specs.VersionLaws
+pub use Rattle.exh_map.specs.VersionLemmas
+pub use Rattle.exh_map.specs.Opened
+pub use Rattle.exh_map.specs.CallFault
+pub use Rattle.exh_map.specs.FileMap
+pub use Rattle.exh_map.specs.Pairs
+pub use Rattle.exh_map.specs.Sizes
 -- commits of a map, and stores that are opened
 pub mod Commit
 pub mod Store
+pub use Rattle.exh_map.specs.Batch
+pub use Rattle.exh_map.specs.CallChange
+pub use Rattle.exh_map.specs.CallsChange
+pub use Rattle.exh_map.specs.FilesFault
+pub use Rattle.exh_map.specs.OwnLog
+pub use Rattle.exh_map.specs.SaveFilesFault
+pub use Rattle.exh_map.specs.Saving
+pub use Rattle.exh_map.specs.AnyAnswer
+pub use Rattle.exh_map.specs.PlacedLaws
+-- calls that are pending
+pub mod Pending

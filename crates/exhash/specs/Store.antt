@@ -2,10 +2,10 @@
 use Rattle.std.specs.Prelude.{◌≡◌, ◌⊎◌, ⊤, Option, None, IsSome, IsTrue}
 use Rattle.std.specs.FinMap as fin
 use Rattle.exh_keyer.specs.declared.any_keyer.AnyKeyer.{AnyKeyer}
-use Rattle.exh_settings.specs.FileSettings.{AreInRange, are_same}
-use Rattle.exh_settings.specs.declared.file_settings.FileSettings.{FileSettings}
-use Rattle.exh_file.specs.FileChange.{HasMap}
-use Rattle.exh_file.specs.Opened.{OpenedState, settings_in}
+use Rattle.exh_page.specs.FileSettings.{AreInRange, are_same}
+use Rattle.exh_page.specs.declared.file_settings.FileSettings.{FileSettings}
+use Rattle.exh_map.specs.FileChange.{HasMap}
+use Rattle.exh_map.specs.Opened.{OpenedState, settings_in}
 use Rattle.exh_map.specs.Sizes.{IsOfCause}
 use Rattle.exh_map.specs.declared.store_error.StoreError.{StoreError}
 use Rattle.exh_map.specs.declared.store_error.StoreError.TheVariants.{AboveLimit, Exists, OldVersion, ReadOnly, Settings, Unheld, Unsynchronized, Vanished}

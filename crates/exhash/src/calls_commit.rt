@@ -3,21 +3,19 @@ ghost use Rattle.std.specs.Prelude.{◌≡◌, ℕ, List, IfErr, IfOk, IsTrue, O
 ghost use Rattle.sqlite_disk.specs.Disk.{Only};
 ghost use Rattle.sqlite_wal.specs.Files.{seen_image};
 ghost use Rattle.sqlite_wal.specs.Reads.{AreClean};
-ghost use Rattle.exh_paged.specs.OwnLog.{HasOtherStamp, HasStamp};
-ghost use Rattle.exh_batch.specs.Batch.{map_after_all};
-ghost use Rattle.exh_commit.specs.FilePages.{Leaves, LeavesAlone, StandsFor};
+ghost use Rattle.exhash.specs.OwnLog.{HasOtherStamp, HasStamp};
+ghost use Rattle.exhash.specs.Batch.{map_after_all};
+ghost use Rattle.exh_map.specs.FilePages.{Leaves, LeavesAlone, StandsFor};
 ghost use Rattle.exh_keyer.specs.Pseudokey.{any_pseudokey};
 ghost use Rattle.exh_keyer.specs.declared.any_keyer.AnyKeyer.{AnyKeyer};
 ghost use Rattle.exh_page.specs.KeyMap.{KeyMap};
-ghost use Rattle.exh_settings.specs.declared.file_settings.FileSettings.{FileSettings};
+ghost use Rattle.exh_page.specs.declared.file_settings.FileSettings.{FileSettings};
 ghost use Rattle.exh_map.specs.Told.{IsChanged, IsOfContent, IsUnsure};
 ghost use Rattle.exhash.specs.Commit.{IsCommittedAs, IsFileOf, IsOldOrCommitted, stamps_behind};
 
+use crate::answer_over;
 use exh_calls::Call;
-use exh_commit::Truthful;
-use exh_in_place::{Refused, legal_files_are_whole};
-use exh_map::StoreError;
-use exh_paged::answer_over;
+use exh_map::{Refused, SeenFiles, StoreError, Truthful, legal_files_are_whole};
 use sqlite_disk::Files;
 use sqlite_pager::Options;
 use std::alloc::Global;
@@ -31,7 +29,7 @@ use std::alloc::Global;
 /// they say.
 pub fn commit_calls<D: Truthful + Drop>(
     alloc: Global,
-    files: Files<D>,
+    files: SeenFiles<D>,
     options: Options,
     before: u64,
     calls: &[Call],

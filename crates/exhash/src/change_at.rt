@@ -2,11 +2,9 @@
 ghost use Rattle.std.specs.Prelude.{IfErr};
 ghost use Rattle.exh_map.specs.Sizes.{IsOther};
 
-use exh_backup::{opened_at, see_old_version};
+use crate::PutIf;
 use exh_calls::{Call, Reply};
-use exh_in_place::{change_at, put_at};
-use exh_map::StoreError;
-use exh_paged::PutIf;
+use exh_map::{StoreError, change_at, opened_at, put_at, see_old_version};
 
 /// The reply of the page file of a path to a call, by which it is changed in place. For its lock it waits so many seconds.
 ///

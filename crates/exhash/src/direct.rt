@@ -1,17 +1,15 @@
 //! Calls that go to a page file, without opening it whole.
 ghost use Rattle.std.specs.Prelude.{◌≡◌, [], ◌∷◌, IfErr};
-ghost use Rattle.exh_path.specs.declared.writers_lock.TheConstants.{WAIT};
+ghost use Rattle.exh_map.specs.SystemLimits.{WAIT};
 ghost use Rattle.exh_map.specs.Sizes.{IsOther, IsSized};
 
 use crate::change_at::{changed_at, put_if_at};
 use crate::key_reading::KeyReading;
 use crate::reading::unread;
+use crate::{KeyIs, PutIf};
 use exh_calls::{Call, Reply};
-use exh_in_place::read_one_state;
-use exh_map::{Put, PutNew, StoreError, Swap, key_of, value_of};
+use exh_map::{Put, PutNew, StoreError, Swap, WAIT, key_of, read_one_state, value_of};
 use exh_page::{Key, Value};
-use exh_paged::{KeyIs, PutIf};
-use exh_system::WAIT;
 use std::cell::Cell;
 
 /// The page file of a path, of which each call reads what it needs, and is a commit by itself. A get reads a file of any

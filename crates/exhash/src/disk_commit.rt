@@ -3,23 +3,20 @@ ghost use Rattle.std.specs.Prelude.{◌≡◌, ℕ, List, IfErr, IfOk, IsTrue, O
 ghost use Rattle.sqlite_disk.specs.Disk.{Only};
 ghost use Rattle.sqlite_wal.specs.Files.{seen_image};
 ghost use Rattle.sqlite_wal.specs.Reads.{AreClean};
-ghost use Rattle.exh_paged.specs.OwnLog.{HasStamp};
-ghost use Rattle.exh_commit.specs.FilePages.{Leaves, LeavesAlone, StandsFor};
-ghost use Rattle.exh_file.specs.FileChange.{HasMap};
-ghost use Rattle.exh_file.specs.Opened.{AreWardsOf, settings_in};
-ghost use Rattle.exh_file.specs.declared.placing.Stamps.{Stamps as StampsOf};
+ghost use Rattle.exhash.specs.OwnLog.{HasStamp};
+ghost use Rattle.exh_map.specs.FilePages.{Leaves, LeavesAlone, StandsFor};
+ghost use Rattle.exh_map.specs.FileChange.{HasMap};
+ghost use Rattle.exh_map.specs.Opened.{AreWardsOf, settings_in};
+ghost use Rattle.exh_map.specs.declared.Stamps.{Stamps as StampsOf};
 ghost use Rattle.exh_page.specs.KeyMap.{KeyMap};
 ghost use Rattle.exhash.specs.Commit.{Drafts, DraftsPlaces, IsCommitted, IsOldOrCommitted, KeepsPlaces};
 ghost use Rattle.exh_map.specs.FileMap.{KeepsMap};
 ghost use Rattle.exh_map.specs.Sizes.{IsOfCause};
 ghost use Rattle.exh_map.specs.Told.{IsUnsure};
 
-use exh_commit::Truthful;
-use exh_file::{Draft, Opened, Stamps};
+use crate::save_files;
 use exh_frames::FileStore;
-use exh_in_place::Refused;
-use exh_map::{FileMap, StoreError};
-use exh_paged::save_files;
+use exh_map::{Draft, FileMap, Opened, Refused, SeenFiles, Stamps, StoreError, Truthful};
 use exh_stores::Pages;
 use sqlite_disk::Files;
 use sqlite_pager::Options;
@@ -33,7 +30,7 @@ use std::alloc::Global;
 /// they say.
 pub fn commit_files<D: Truthful + Drop, P: Pages + Drop>(
     alloc: Global,
-    files: Files<D>,
+    files: SeenFiles<D>,
     options: Options,
     lows: &[u64],
     stamps: Stamps,
@@ -66,7 +63,7 @@ pub fn commit_files<D: Truthful + Drop, P: Pages + Drop>(
 {
     match draft_of(alloc, lows, stamps, map) {
         Ok(draft) => save_draft(alloc, files, options, stamps.before, draft),
-        Err(fault) => (Err(fault), files),
+        Err(fault) => (Err(fault), files.into_files()),
     }
 }
 
@@ -112,7 +109,7 @@ pub(crate) fn drafted(
 // Saves a draft over a file that has this stamp.
 fn save_draft<D: Truthful + Drop>(
     alloc: Global,
-    files: Files<D>,
+    files: SeenFiles<D>,
     options: Options,
     stamp: u64,
     draft: Draft<FileStore>,

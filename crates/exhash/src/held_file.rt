@@ -1,24 +1,22 @@
 //! A page file under the writers' lock.
 ghost use Rattle.std.specs.Prelude.{◌≡◌, IfErr};
-ghost use Rattle.exh_file.specs.Opened.{AreWardsOf, settings_in};
+ghost use Rattle.exh_map.specs.Opened.{AreWardsOf, settings_in};
 ghost use Rattle.exh_map.specs.FileMap.{KeepsMap};
 ghost use Rattle.exh_map.specs.Sizes.{IsOfCause, IsOfOpening};
 ghost use Rattle.exhash.specs.Store.{IsOfSaving};
 
+use crate::Pending;
 use crate::disk_commit::drafted;
 use crate::new_file::{draft_anew, save_draft, synchronized};
 use crate::reading::read_whole;
-use exh_backup::opened_at;
 use exh_calls::Call;
-use exh_disk::DiskFault;
-use exh_file::{Draft, FileForm, Opened, PlacedForm, Stamps};
 use exh_frames::FileStore;
-use exh_in_place::{answer_in_place, recover_at, save_in_place};
-use exh_map::{FileMap, StoreError};
-use exh_path::{OpenedFile, SystemDisk, SystemFile, open_above};
-use exh_pending::Pending;
-use exh_saving::Saved;
-use exh_system::{WAIT, above_limit, draw_stamp, file_size_limit, front_of, is_at, lock_soon};
+use exh_map::{
+    Draft, FileForm, FileMap, Opened, OpenedFile, PlacedForm, Stamps, StoreError, SystemDisk,
+    SystemFile, WAIT, above_limit, answer_in_place, draw_stamp, file_size_limit, front_of, is_at,
+    lock_soon, open_above, opened_at, recover_at, save_in_place,
+};
+use exh_saving::{DiskFault, Saved};
 use std::fs::File;
 use std::io::{ErrorKind, Seek};
 use std::{fs, io};

@@ -1,12 +1,10 @@
 //! A get as a reading of an open file, which may be made again.
 ghost use Rattle.std.specs.Prelude.{⊤};
-ghost use Rattle.exh_walked.specs.AnyAnswer.{IsOfLegal};
+ghost use Rattle.exhash.specs.AnyAnswer.{IsOfLegal};
 
-use exh_direct::{Blocks, DirectFault};
-use exh_in_place::Reading;
+use crate::find_any;
+use exh_map::{Blocks, DirectFault, FileBlocks, Reading, Reason, with_reason};
 use exh_page::{Key, Value};
-use exh_system::{FileBlocks, Reason, with_reason};
-use exh_walked::find_any;
 use std::alloc::Global;
 use std::fs::File;
 

@@ -2,18 +2,16 @@
 ghost use Rattle.std.specs.Prelude.{◌≡◌, ◌⊎◌, Err, IfErr, None, OnOk};
 ghost use Rattle.exh_map.specs.Sizes.{IsOfCause};
 ghost use Rattle.exh_map.specs.declared.store_error.StoreError.TheVariants.{Exists, Settings as SettingsFault};
-ghost use Rattle.exh_settings.specs.FileSettings.{AreInRange};
+ghost use Rattle.exh_page.specs.FileSettings.{AreInRange};
 ghost use Rattle.exhash.specs.Store.{IsOfFile, IsOfMaking, IsOfNew};
 
-use exh_disk::file_name_of;
-use exh_file::{Draft, Opened, Stamps};
 use exh_frames::{FileStore, MAKER};
-use exh_map::{Settings, StoreError};
-use exh_path::{OpenedFile, SystemDisk, SystemFile, open_above, save_at};
-use exh_saving::Saved;
+use exh_map::{
+    Draft, InPlaceFault, NAME_LIMIT, Opened, OpenedFile, Settings, Stamps, StoreError, SystemDisk,
+    SystemFile, draw_stamp, is_name_of_log, new_wards, open_above, save_at,
+};
+use exh_saving::{Saved, file_name_of};
 use exh_stream::{Console, Meter, Unit, Work};
-use exh_system::{InPlaceFault, NAME_LIMIT, draw_stamp};
-use exh_ward::new_wards;
 use std::fs::{File, OpenOptions};
 use std::io::{ErrorKind, Stderr};
 use std::{fs, io};
@@ -22,7 +20,8 @@ use std::{fs, io};
 /// file may be left.
 ///
 /// `Settings`: these are no file's. `Exists`: something is there. `Unsynchronized`: it is made, but a power failure may take it
-/// away. `Unfit` with `LongName`: its name leaves no room for that of its log. Others: it isn't made, as they say.
+/// away. `Unfit` with `LongName`: its name leaves no room for that of its log; with `LogName`: it is that of the log of a page
+/// file. Others: it isn't made, as they say.
 pub fn make(rt: &HostRuntime, path: &str, settings: Settings) -> Result<(), StoreError>
     ensures settings { (AreInRange settings → ⊥) → result ≡ Err SettingsFault }
     ensures refused { IfErr result (IsOfMaking settings) }
@@ -71,6 +70,9 @@ fn claim(rt: &HostRuntime, path: &str) -> Result<File, StoreError>
 {
     if file_name_of(path).len() > NAME_LIMIT {
         return Err(StoreError::Unfit(InPlaceFault::LongName));
+    }
+    if is_name_of_log(rt, path)? {
+        return Err(StoreError::Unfit(InPlaceFault::LogName));
     }
     let mut options = OpenOptions::new();
     options.write(true).create_new(true);

@@ -2,12 +2,10 @@
 ghost use Rattle.std.specs.Prelude.{IfErr};
 ghost use Rattle.exh_map.specs.Sizes.{IsOfCause, IsOfOpening, IsOther};
 
-use exh_backup::{opened_at, read_still};
-use exh_file::{FileForm, Opened, open_form};
 use exh_frames::FileStore;
-use exh_in_place::Reading;
-use exh_map::StoreError;
-use exh_notes::ReasonReader;
+use exh_map::{
+    FileForm, Opened, Reading, ReasonReader, StoreError, open_form, opened_at, read_still,
+};
 use std::alloc::Global;
 use std::cell::Cell;
 use std::fs::File;

@@ -1,26 +1,25 @@
 //! A page file that is opened whole, and worked on in memory.
 ghost use Rattle.std.specs.Prelude.{◌≡◌, [], ◌∷◌, Err, IfErr, IfOk, IsTrue, OnErr, OnOk, length};
 ghost use Rattle.std.specs.FinMap.{from_entries, len};
-ghost use Rattle.exh_file.specs.FileChange.{HasMap};
-ghost use Rattle.exh_file.specs.Opened.{settings_in};
+ghost use Rattle.exh_map.specs.FileChange.{HasMap};
+ghost use Rattle.exh_map.specs.Opened.{settings_in};
 ghost use Rattle.exh_page.specs.KeyMap.{KeyMap};
 ghost use Rattle.exh_map.specs.CallFault.{IsCallFault, IsWardFault};
 ghost use Rattle.exh_map.specs.FileMap.{IsGot, IsPut, IsPutNew, IsRemoved, IsReplaced, IsSwap, KeepsMap};
 ghost use Rattle.exh_map.specs.Pairs.{AreOnce, pairs_in};
 ghost use Rattle.exh_map.specs.Sizes.{IsOfCause, IsOfOpening};
 ghost use Rattle.exh_map.specs.declared.store_error.StoreError.TheVariants.{ReadOnly, Settings as SettingsFault};
-ghost use Rattle.exh_pending.specs.Pending.{IsEmpty, KeepsPending};
-ghost use Rattle.exh_settings.specs.FileSettings.{AreInRange};
+ghost use Rattle.exhash.specs.Pending.{IsEmpty, KeepsPending};
+ghost use Rattle.exh_page.specs.FileSettings.{AreInRange};
 ghost use Rattle.exhash.specs.Store.{IsHeld, IsNew, IsOfCommit, IsOfMaking, IsOfNew, IsOfSaving, IsReadOnly, IsUnheld};
 
+use crate::Pending;
 use crate::held_file::HeldFile;
 use crate::new_file::make;
 use crate::reading::read_opened;
 use exh_frames::FileStore;
-use exh_map::{FileMap, Pairs, Put, PutNew, Settings, StoreError, Swap, key_of, value_of};
+use exh_map::{FileMap, Pairs, Put, PutNew, Settings, StoreError, Swap, WAIT, key_of, value_of};
 use exh_page::Value;
-use exh_pending::Pending;
-use exh_system::WAIT;
 
 /// A page file that is opened whole: calls are answered in memory, and `commit` saves what they changed, all of it or
 /// nothing. A store that is let go without a commit leaves the file as it was.

@@ -1,6 +1,6 @@
 ghost use Rattle.std.specs.Prelude.{◌≡◌, ◌≢◌, ◌+◌, ◌<◌, length, vec_len, vec_capacity, IfOk, IfErr, OnOk, OnErr};
 ghost use Rattle.std.specs.FinMap as map;
-ghost use Rattle.exh_table.specs.Table.{entry_after, entry_number, raised};
+ghost use Rattle.exh_legal.specs.Table.{entry_after, entry_number, raised};
 ghost use Rattle.exh_stores.specs.PageStore.{CountsFaults, IfPage, TakesTheSame};
 ghost use Rattle.exh_legal.specs.ChangeNumbers.{index_of, next_notice};
 ghost use Rattle.exh_ward.specs.Told.{FitChange, IsTold, MayChange, page_changed, pages_changed, twin_changed};
@@ -10,11 +10,10 @@ ghost use Rattle.exh_ward.specs.WardState.{IsSoundWard, IsUnchanged};
 use super::Ward;
 use crate::WardFault;
 use exh_keyer::Keyer;
-use exh_legal::PageIndex;
+use exh_legal::{PageIndex, Table};
 use exh_notice::{Entry, Kind, Notice};
 use exh_prefix::{PageNo, Prefix};
 use exh_stores::{Pages, PagesFault};
-use exh_table::Table;
 
 impl<P: Pages + Drop, K: Keyer> Ward<P, K> {
     // The index of the next notice.

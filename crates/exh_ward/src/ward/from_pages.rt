@@ -17,12 +17,10 @@ use super::history::read_base;
 use super::{Ward, own_prefix};
 use crate::WardFault;
 use exh_calls::Journal;
-use exh_join::Join;
 use exh_keyer::Keyer;
-use exh_legal::{PageIndex, entries_are_few, index_of};
+use exh_legal::{Join, PageIndex, Table, entries_are_few, index_of, own_entries_give_the_table};
 use exh_page::CAP_LIMIT;
 use exh_stores::Pages;
-use exh_table::{Table, own_entries_give_the_table};
 use std::alloc::Global;
 
 impl<P: Pages + Drop, K: Keyer> Ward<P, K> {

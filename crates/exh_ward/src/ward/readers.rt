@@ -4,27 +4,24 @@ ghost use Rattle.exh_prefix.specs.declared.prefix.TheConstants.{LIMIT};
 ghost use Rattle.exh_page.specs.declared.page.Page.{Page};
 ghost use Rattle.exh_page.specs.declared.page.TheConstants.{CAP_LIMIT};
 ghost use Rattle.exh_stores.specs.PageStore.{IfPage};
-ghost use Rattle.exh_codec.specs.Block.{sealed};
-ghost use Rattle.exh_codec.specs.PageImage.{IsHeld, content_of};
+ghost use Rattle.exh_stores.specs.Block.{sealed};
+ghost use Rattle.exh_stores.specs.PageImage.{IsHeld, content_of};
 ghost use Rattle.exh_page.specs.PageHead.{head_of};
 ghost use Rattle.exh_legal.specs.LegalLaws.{NamesHome};
 ghost use Rattle.exh_legal.specs.Pages.{IsAt};
-ghost use Rattle.exh_settings.specs.FileSettings.{AreInRange};
+ghost use Rattle.exh_page.specs.FileSettings.{AreInRange};
 ghost use Rattle.exh_ward.specs.WardFault.{PageRefused, CountsFailures};
 ghost use Rattle.exh_ward.specs.WardState.{IsSoundWard, IsUnchanged, notices_above, own_prefix};
 
 use super::Ward;
 use crate::WardFault;
 use exh_calls::{Base, Journal};
-use exh_codec::BLOCK_LEN;
 use exh_keyer::Keyer;
-use exh_legal::{pages_are_few, walks_name_homes};
+use exh_legal::{Table, pages_are_few, walks_name_homes};
 use exh_notice::Notice;
-use exh_page::{Key, Page, PageHead};
+use exh_page::{FileSettings, Key, Page, PageHead};
 use exh_prefix::PageNo;
-use exh_settings::FileSettings;
-use exh_stores::Pages;
-use exh_table::Table;
+use exh_stores::{BLOCK_LEN, Pages};
 
 impl<P: Pages + Drop, K: Keyer> Ward<P, K> {
     /// The notices whose index is above `n`, in order: what a caller whose last index is `n` lacks.

@@ -1,14 +1,14 @@
 ghost use Rattle.exh_world.specs.Sound.{IsSoundWorld};
 ghost use Rattle.exh_world.specs.Step.{Step};
-ghost use Rattle.exh_event.specs.declared.event.Event.TheVariants.{Deliver, Send, Combine, Restart};
+ghost use Rattle.exh_walk.specs.declared.event.Event.TheVariants.{Deliver, Send, Combine, Restart};
 
 use super::World;
 use super::notice_of::notice_of;
 use super::place::place_of;
 use crate::laws::steps_keep_worlds_sound;
-use exh_event::{Outcome, StepFault};
 use exh_keyer::Keyer;
 use exh_stores::Pages;
+use exh_walk::{Outcome, StepFault};
 use exh_ward::WardFault;
 
 impl<P: Pages + Drop, K: Keyer> World<P, K> {

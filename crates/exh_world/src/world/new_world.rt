@@ -10,7 +10,7 @@ use crate::in_flight::InFlight;
 use exh_array::{Copies, Directory};
 use exh_frames::{CacheFault, FramedMaker, FramedPages};
 use exh_keyer::Keyer;
-use exh_settings::Config;
+use exh_page::Config;
 use exh_stores::{Pages, PlainMaker, PlainPages, StoreMaker};
 use exh_ward::new_wards;
 use std::alloc::{AllocError, Global};

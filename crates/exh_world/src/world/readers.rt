@@ -16,11 +16,11 @@ use super::World;
 use super::place::place_of;
 use crate::Requests;
 use exh_array::Directory;
-use exh_event::StepFault;
 use exh_keyer::Keyer;
 use exh_page::PageHead;
 use exh_prefix::PageNo;
 use exh_stores::Pages;
+use exh_walk::StepFault;
 
 impl<P: Pages + Drop, K: Keyer> World<P, K> {
     /// The file is cut into 2^this many wards, by so many leading bits of pseudokeys, 0 to 4. It takes

@@ -1,6 +1,6 @@
 ghost use Rattle.exh_world.specs.Sound.{IsSoundWorld};
 ghost use Rattle.exh_world.specs.Step.{Step};
-ghost use Rattle.exh_event.specs.declared.event.Event.TheVariants.{Begin, Hop as HopOn};
+ghost use Rattle.exh_walk.specs.declared.event.Event.TheVariants.{Begin, Hop as HopOn};
 
 use super::World;
 use super::changes::changes_since;
@@ -8,11 +8,10 @@ use super::place::place_of;
 use crate::Request;
 use crate::laws::steps_keep_worlds_sound;
 use exh_calls::Call;
-use exh_event::{Outcome, StepFault};
 use exh_keyer::Keyer;
 use exh_prefix::ward_number;
-use exh_route::moves_come_nearer;
 use exh_stores::Pages;
+use exh_walk::{Outcome, StepFault, moves_come_nearer};
 
 impl<P: Pages + Drop, K: Keyer> World<P, K> {
     /// Begins a request of a name that no request in flight has: it stands at the page that the

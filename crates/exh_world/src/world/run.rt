@@ -10,9 +10,9 @@ ghost use Rattle.exh_world.specs.Step.{Step};
 use super::World;
 use crate::laws::{refused_turns_leave_the_others, runs_carry_the_headline};
 use crate::move_laws::{current_copies_look_once, moves_are_counted};
-use exh_event::{Event, Outcome, StepFault, Turn};
 use exh_keyer::Keyer;
 use exh_stores::Pages;
+use exh_walk::{Event, Outcome, StepFault, Turn};
 use std::alloc::AllocError;
 
 impl<P: Pages + Drop, K: Keyer> World<P, K> {

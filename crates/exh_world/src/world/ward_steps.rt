@@ -1,13 +1,13 @@
 ghost use Rattle.exh_world.specs.Sound.{IsSoundWorld};
 ghost use Rattle.exh_world.specs.Step.{Step};
-ghost use Rattle.exh_event.specs.declared.event.Event.TheVariants.{Merge, Split};
+ghost use Rattle.exh_walk.specs.declared.event.Event.TheVariants.{Merge, Split};
 
 use super::World;
 use crate::laws::steps_keep_worlds_sound;
-use exh_event::{Outcome, StepFault};
 use exh_keyer::Keyer;
 use exh_prefix::PageNo;
 use exh_stores::Pages;
+use exh_walk::{Outcome, StepFault};
 
 impl<P: Pages + Drop, K: Keyer> World<P, K> {
     /// Splits a page of a ward, and issues the notice (Fagin et al. 1979; the notice is exhash's

@@ -10,7 +10,7 @@ use crate::in_flight::InFlight;
 use exh_array::{Copies, Directory};
 use exh_keyer::Keyer;
 use exh_legal::walks_name_homes;
-use exh_settings::Config;
+use exh_page::Config;
 use exh_stores::Pages;
 use exh_ward::Ward;
 use std::alloc::{AllocError, Global};

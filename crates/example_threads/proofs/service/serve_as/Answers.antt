@@ -1,9 +1,9 @@
 use Rattle.std.proofs.Common.{◌≡◌, List, length, slice_get, sym, ap, ◌∙◌, subst}
 use Rattle.exh_keyer.specs.declared.any_keyer.AnyKeyer.{AnyKeyer}
-use Rattle.exh_settings.specs.declared.file_settings.FileSettings.{FileSettings}
+use Rattle.exh_page.specs.declared.file_settings.FileSettings.{FileSettings}
 use Rattle.exh_ward.specs.WardState.{WardState}
-use Rattle.exh_file.specs.Opened.{AreWardsOf, OpenedState, settings_in}
-use Rattle.exh_live_file.specs.LiveFile.{AreNewWardsOf, LiveState}
+use Rattle.exh_system.specs.Opened.{AreWardsOf, OpenedState, settings_in}
+use Rattle.exh_live.specs.LiveFile.{AreNewWardsOf, LiveState}
 use Rattle.example_threads.specs.Unasked.{AreUnasked}
 use Rattle.example_threads.proofs.service.serve_as.Goals as goal
 

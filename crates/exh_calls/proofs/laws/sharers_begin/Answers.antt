@@ -1,6 +1,6 @@
 use Rattle.std.proofs.Common.{arith}
-use Rattle.exh_prefix.specs.declared.prefix.TheConstants.{LIMIT}
-use Rattle.exh_prefix.specs.LeadingLemmas.{begins_by-sharing, shared_begins}
+use Rattle.exh_page.specs.PrefixLimits.{LIMIT}
+use Rattle.exh_page.specs.LeadingLemmas.{begins_by-sharing, shared_begins}
 use Rattle.exh_calls.proofs.laws.sharers_begin.Goals as goal
 
 pub returns : goal.returns

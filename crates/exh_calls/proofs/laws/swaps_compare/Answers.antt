@@ -6,7 +6,7 @@ use Rattle.std.specs.Cmp.Lexicographic.{slice_cmp}
 use Rattle.std.proofs.lemmas.Cmp.{eq_by_cmp_equiv, nat_list_cmp_total}
 use Rattle.std.proofs.lemmas.Map.Lookups.{exact_bytes}
 use Rattle.std.proofs.lemmas.Slice.Eq.{bytes_eq-Decides}
-use Rattle.exh_prefix.specs.PrefixListLemmas.{is_equal}
+use Rattle.exh_page.specs.PrefixListLemmas.{is_equal}
 use Rattle.exh_page.specs.KeyMap.{KeyMap}
 use Rattle.exh_calls.specs.Effect.{Effect, Keep, Set, effect_of}
 use Rattle.exh_calls.specs.CallLaws.{IsSwap}

@@ -1,7 +1,7 @@
 use Rattle.std.proofs.Common.{◌≡◌, ℕ, Some, length}
 use Rattle.std.specs.FinMap.{empty}
 use Rattle.std.specs.List.{slice_get}
-use Rattle.exh_table.specs.Table.{TableMap}
+use Rattle.exh_format.specs.Table.{TableMap}
 use Rattle.exh_cells.proofs.tables.empty_tables.Given as goal
 
 abbrev pub invariant-loop-number : goal.invariant-loop-number

@@ -1,5 +1,5 @@
 use Rattle.std.proofs.Common.{◌≡◌, ◌++◌, ℕ, length, subst, arith}
-use Rattle.exh_table.specs.Table.{IsTableOf}
+use Rattle.exh_format.specs.Table.{IsTableOf}
 use Rattle.exh_cells.specs.Told.{told_by_slots}
 use Rattle.exh_cells.proofs.TellSteps.{slot_more}
 use Rattle.exh_cells.proofs.tables.put_cell.Goals as goal

@@ -1,6 +1,6 @@
 use Rattle.std.proofs.Common.{Bool, List, ◌++◌}
 use Rattle.exh_notice.specs.declared.entry.Entry.{Entry}
-use Rattle.exh_table.specs.Table.{IsTableOf}
+use Rattle.exh_format.specs.Table.{IsTableOf}
 use Rattle.exh_cells.specs.Told.{told_by_slots}
 use Rattle.exh_cells.proofs.tables.put_cell.Given as goal
 

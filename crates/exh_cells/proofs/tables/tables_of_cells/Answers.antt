@@ -3,7 +3,7 @@ use Rattle.std.specs.List.{slice_get}
 use Rattle.std.proofs.lemmas.List.{length-set}
 use Rattle.std.proofs.lemmas.Option.{slice_get-get_or, slice_get_read}
 use Rattle.exh_prefix.specs.PrefixListLemmas.{set_is}
-use Rattle.exh_table.specs.Table.{IsTableOf}
+use Rattle.exh_format.specs.Table.{IsTableOf}
 use Rattle.exh_cells.specs.declared.cell.Cell.{Cell}
 use Rattle.exh_cells.specs.Told.{told_by_cell, told_by_places}
 use Rattle.exh_cells.proofs.TellSteps.{none_told_yet, place_else, place_more, place_same, place_told}

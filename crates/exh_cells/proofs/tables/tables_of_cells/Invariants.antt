@@ -1,6 +1,6 @@
 use Rattle.std.proofs.Common.{◌≡◌, ℕ, ◌^◌, Some, length}
 use Rattle.std.specs.List.{slice_get}
-use Rattle.exh_table.specs.Table.{IsTableOf, TableMap}
+use Rattle.exh_format.specs.Table.{IsTableOf, TableMap}
 use Rattle.exh_cells.specs.Told.{told_by_places}
 use Rattle.exh_cells.proofs.tables.tables_of_cells.Given as goal
 

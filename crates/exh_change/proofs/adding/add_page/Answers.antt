@@ -12,7 +12,7 @@ use Rattle.exh_codec.specs.PageImage.{IsPage}
 use Rattle.exh_format.specs.PageFile.{page_block}
 use Rattle.exh_edits.specs.BlockEdits.{with_block, with_edits}
 use Rattle.exh_edits.specs.PlacedEdits.{counted_more, group_cells, with_more}
-use Rattle.exh_steps.specs.PlacedSteps.{new_cell}
+use Rattle.exh_change.specs.PlacedSteps.{new_cell}
 use Rattle.exh_change.specs.Changes.{EditsMore, blocks_at}
 use Rattle.exh_change.proofs.OfFile.{group_push}
 use Rattle.exh_change.proofs.adding.add_page.Goals as goal

@@ -6,8 +6,8 @@ use Rattle.exh_cells.specs.declared.stamped_header.StampedHeader.{StampedHeader}
 use Rattle.exh_page.specs.declared.page.Page.{Page}
 use Rattle.exh_page.specs.Page.{IsWellFormed, records_of, with_records}
 use Rattle.exh_edits.specs.PlacedEdits.{with_page}
-use Rattle.exh_steps.specs.PlacedSteps.{is_full, page_after}
-use Rattle.exh_ward.specs.PageAnswer.{records_after, reply_by}
+use Rattle.exh_change.specs.PlacedSteps.{is_full, page_after}
+use Rattle.exh_change.specs.PageAnswer.{records_after, reply_by}
 use Rattle.exh_change.specs.declared.draft.Draft.{Draft}
 use Rattle.exh_change.specs.Changes.{AreCounted}
 use Rattle.exh_change.specs.Leaves.{leaf_of}

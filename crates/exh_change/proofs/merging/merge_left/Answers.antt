@@ -9,9 +9,9 @@ use Rattle.exh_cells.specs.declared.cell.Cell.{Cell}
 use Rattle.exh_cells.specs.declared.stamped_header.StampedHeader.{StampedHeader}
 use Rattle.exh_cells.specs.PlacedFile.{PlacedFile}
 use Rattle.exh_edits.specs.PlacedEdits.{with_cell}
-use Rattle.exh_steps.specs.PlacedSteps.{IsStep, merged, slot_of, with_change}
-use Rattle.exh_walked.specs.PlacedLaws.{map_in}
-use Rattle.exh_walked.specs.WalkBlocks.{pages_in}
+use Rattle.exh_change.specs.PlacedSteps.{IsStep, merged, slot_of, with_change}
+use Rattle.exh_change.specs.PlacedLaws.{map_in}
+use Rattle.exh_change.specs.WalkBlocks.{pages_in}
 use Rattle.exh_change.specs.declared.draft.Draft.{Draft}
 use Rattle.exh_change.specs.Changes.{IsOfPrefix}
 use Rattle.exh_change.specs.Drafts.{IsOf}

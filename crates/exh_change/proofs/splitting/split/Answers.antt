@@ -1,8 +1,8 @@
 use Rattle.std.proofs.Common.{◌≡◌, ◌≢◌, ℕ, ◌%◌, length, slice_get, sym, ap, ◌∙◌, subst}
 use Rattle.exh_page.specs.Page.{IsDivisible}
-use Rattle.exh_walked.specs.declared.home.Home.{Home}
-use Rattle.exh_steps.specs.PlacedSteps.{IsStep, slot_of, split_fresh, split_revived}
-use Rattle.exh_walked.specs.PlacedLaws.{map_in}
+use Rattle.exh_edits.specs.declared.home.Home.{Home}
+use Rattle.exh_change.specs.PlacedSteps.{IsStep, slot_of, split_fresh, split_revived}
+use Rattle.exh_change.specs.PlacedLaws.{map_in}
 use Rattle.exh_change.specs.Changes.{HasRoom, IsAtHome}
 use Rattle.exh_change.proofs.Homes.{match_more}
 use Rattle.exh_change.proofs.SplitSteps.{number_small, splittable}

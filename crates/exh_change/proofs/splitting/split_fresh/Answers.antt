@@ -12,7 +12,7 @@ use Rattle.exh_cells.specs.declared.stamped_header.StampedHeader.{StampedHeader}
 use Rattle.exh_cells.specs.PlacedFile.{PlacedFile}
 use Rattle.exh_cells.specs.StampedHeader.{IsStampedHeader}
 use Rattle.exh_edits.specs.PlacedEdits.{counted_more, with_cell, with_more}
-use Rattle.exh_steps.specs.PlacedSteps.{count_in, new_cell, ward_in, with_change}
+use Rattle.exh_change.specs.PlacedSteps.{count_in, new_cell, ward_in, with_change}
 use Rattle.exh_change.specs.declared.draft.Draft.{Draft}
 use Rattle.exh_change.specs.Changes.{EditsMore, blocks_at}
 use Rattle.exh_change.specs.Drafts.{IsOf, pseudo_in}

@@ -11,7 +11,7 @@ use Rattle.exh_page.specs.Halves.{right_half}
 use Rattle.exh_cells.specs.declared.cell.Cell.{Cell}
 use Rattle.exh_cells.specs.declared.stamped_header.StampedHeader.{StampedHeader}
 use Rattle.exh_edits.specs.PlacedEdits.{with_cell, with_page}
-use Rattle.exh_steps.specs.PlacedSteps.{with_change}
+use Rattle.exh_change.specs.PlacedSteps.{with_change}
 use Rattle.exh_change.specs.Drafts.{IsOf, pseudo_in}
 use Rattle.exh_change.proofs.EditPlaces.{one_of, revived_more}
 use Rattle.exh_change.proofs.Homes.{chosen, chosen_at, home_revived, home_then, revived_is}

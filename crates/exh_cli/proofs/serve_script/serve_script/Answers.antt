@@ -2,7 +2,7 @@ use Rattle.std.proofs.Common.{rules, subst}
 use Rattle.std.specs.Io.KnownBytes.{Appends}
 use Rattle.exh_stream.specs.Output.{AppendsBeginning}
 use Rattle.exh_script.specs.OpenedScript.{beginning}
-use Rattle.exh_answer.specs.LastLine.{memory_line}
+use Rattle.exh_everyday.specs.LastLine.{memory_line}
 use Rattle.exh_cli.specs.ScriptRun.{RunPrints}
 use Rattle.exh_cli.proofs.RunLemmas.{line_cut, line_printed, memory_differs, write_fault}
 use Rattle.exh_cli.proofs.serve_script.serve_script.Goals as goal

@@ -3,7 +3,7 @@ use Rattle.std.specs.Int.Bits.{or_zero_l}
 use Rattle.std.proofs.lemmas.List.{take_more}
 use Rattle.std.proofs.lemmas.Nat.{le_or_l, le_or_r}
 use Rattle.exh_codec.specs.Block.{AreZero}
-use Rattle.exh_prefix.specs.PrefixListLemmas.{AllByRecursion-push, AllByRecursion-append_left, AllByRecursion-append_right}
+use Rattle.exh_page.specs.PrefixListLemmas.{AllByRecursion-push, AllByRecursion-append_left, AllByRecursion-append_right}
 use Rattle.exh_codec.proofs.decode.are_zero.Goals as goal
 
 pub loop-byte-preserved : goal.loop-byte-preserved

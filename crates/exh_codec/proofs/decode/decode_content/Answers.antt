@@ -1,4 +1,4 @@
-use Rattle.exh_prefix.specs.Layout.{layout}
+use Rattle.exh_page.specs.Layout.{layout}
 use Rattle.exh_codec.proofs.LowBytes.{known_fits}
 use Rattle.exh_codec.proofs.FirstFault.{only_given, fault_given}
 use Rattle.exh_codec.proofs.decode.decode_content.Goals as goal

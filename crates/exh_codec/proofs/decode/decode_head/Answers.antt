@@ -1,8 +1,8 @@
 use Rattle.std.proofs.Common.{◌≡◌, ℕ, Bool, List, Some, take, ap, ◌∙◌}
-use Rattle.exh_prefix.specs.Bits.{word_bits}
+use Rattle.exh_page.specs.Bits.{word_bits}
 use Rattle.exh_page.specs.declared.page_head.PageHead.TheVariants.{Live}
-use Rattle.exh_prefix.specs.Layout.{layout}
-use Rattle.exh_prefix.specs.LayoutLemmas.{layout_short}
+use Rattle.exh_page.specs.Layout.{layout}
+use Rattle.exh_page.specs.LayoutLemmas.{layout_short}
 use Rattle.exh_codec.proofs.LowBytes.{known_fits}
 use Rattle.exh_codec.proofs.PageOf.{kind_said, live_head, forward_head}
 use Rattle.exh_codec.proofs.decode.decode_head.Goals as goal

@@ -1,6 +1,6 @@
 use Rattle.std.proofs.Common.{sym, ◌∙◌}
 use Rattle.std.proofs.lemmas.Bool.{false≢true}
-use Rattle.exh_prefix.specs.Layout.{layout}
+use Rattle.exh_page.specs.Layout.{layout}
 use Rattle.exh_codec.proofs.FirstFault.{image_parts, image_given, digest_first, later_first}
 use Rattle.exh_codec.proofs.decode.decode_page_of.Goals as goal
 

@@ -1,4 +1,4 @@
-use Rattle.exh_prefix.specs.Layout.{layout}
+use Rattle.exh_page.specs.Layout.{layout}
 use Rattle.exh_codec.proofs.LowBytes.{known_fits}
 use Rattle.std.proofs.Common.{ℕ, ◌+◌, List, slice_range, sym, ◌∙◌, subst, map}
 use Rattle.std.proofs.lemmas.Bool.{false≢true}

@@ -1,6 +1,6 @@
 use Rattle.std.proofs.Common.{sym, ◌∙◌, subst}
 use Rattle.std.proofs.lemmas.Bool.{false≢true}
-use Rattle.exh_prefix.specs.Prefix.{Begins}
+use Rattle.exh_page.specs.Prefix.{Begins}
 use Rattle.exh_codec.specs.Cells.{Pair}
 use Rattle.exh_codec.proofs.Rising.{pair_at}
 use Rattle.exh_codec.proofs.pages.begun_records.Goals as goal

@@ -1,7 +1,7 @@
 use Rattle.std.proofs.Common.{◌≡◌, map, take}
 use Rattle.std.specs.List.{AllByRecursion}
 use Rattle.arrayvec.specs.ArrayVec.{array_vec_len}
-use Rattle.exh_prefix.specs.Prefix.{Begins}
+use Rattle.exh_page.specs.Prefix.{Begins}
 use Rattle.exh_codec.specs.Cells.{record_borrowed, pair_in}
 use Rattle.exh_codec.specs.ImageTests.{record_of}
 use Rattle.exh_codec.proofs.pages.begun_records.Given as goal

@@ -1,5 +1,5 @@
 use Rattle.std.proofs.Common.{◌≡◌, Result, Ok, Err, IfErr, IsErrAnd, inl, inr, sym, subst}
-use Rattle.exh_map.specs.declared.store_error.StoreError.{StoreError}
+use Rattle.exhash.specs.declared.StoreError.{StoreError}
 use Rattle.exh_compact.specs.Compacted.{IsOfCompacting}
 use Rattle.exh_compact.proofs.compaction.compact.Goals as goal
 

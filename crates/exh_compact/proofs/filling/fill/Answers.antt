@@ -1,5 +1,5 @@
 use Rattle.std.proofs.Common.{◌≡◌, ℕ, List, [], ◌∷◌, ◌++◌, sym, ap, ◌∙◌, subst, append_assoc, rules}
-use Rattle.exh_map.specs.Pairs.{AreOnce}
+use Rattle.exhash.specs.Pairs.{AreOnce}
 use Rattle.exh_compact.proofs.FillLemmas.{once_before}
 use Rattle.exh_compact.proofs.FileLemmas.{IsFilling, filling_begun, filling_full, filling_new}
 use Rattle.exh_compact.proofs.filling.fill.Goals as goal

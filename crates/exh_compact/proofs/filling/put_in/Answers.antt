@@ -1,9 +1,9 @@
 use Rattle.std.proofs.Common.{◌≡◌, ◌<◌, length, ap, ◌∙◌, arith}
 use Rattle.exh_calls.specs.declared.call.Call.TheVariants.{Put}
 use Rattle.exh_keyer.specs.Pseudokey.{any_pseudokey}
-use Rattle.exh_file.specs.Opened.{in_file}
+use Rattle.exhash.specs.Opened.{in_file}
 use Rattle.exh_prefix.specs.Leading.{ward_of}
-use Rattle.exh_file.specs.InWardLemmas.{at_within, one_in, ward_covers, ward_hashed}
+use Rattle.exhash.specs.InWardLemmas.{at_within, one_in, ward_covers, ward_hashed}
 use Rattle.exh_compact.proofs.FileLemmas.{needed_if, wards_if}
 use Rattle.exh_compact.proofs.filling.put_in.Goals as goal
 

@@ -2,7 +2,7 @@ use Rattle.std.proofs.Common.{ℕ, ap, ◌∙◌, arith}
 use Rattle.exh_keyer.specs.Pseudokey.{any_pseudokey}
 use Rattle.exh_table.specs.Table.{TableMap}
 use Rattle.exh_table.specs.TableWalk.{walk_of}
-use Rattle.exh_file.specs.HomeLemmas.{bits_few, home_named}
+use Rattle.exhash.specs.HomeLemmas.{bits_few, home_named}
 use Rattle.exh_compact.proofs.putting.named_page.Goals as goal
 
 pub walk-requires : goal.walk-requires

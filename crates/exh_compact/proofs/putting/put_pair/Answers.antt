@@ -3,10 +3,10 @@ use Rattle.exh_keyer.specs.Pseudokey.{any_pseudokey}
 use Rattle.exh_prefix.specs.Prefix.{Begins}
 use Rattle.exh_calls.specs.declared.call.Call.TheVariants.{Put}
 use Rattle.exh_ward.specs.HopTable.{HopOf}
-use Rattle.exh_file.specs.HomeLemmas.{IsFullHome, full_home, left_same, never_moved, never_stray}
-use Rattle.exh_file.specs.SplitLemmas.{call_done, own_kept, splits_keep}
-use Rattle.exh_file.specs.TurnLemmas.{turn_over}
-use Rattle.exh_file.specs.WardChange.{IsSplitAway}
+use Rattle.exhash.specs.HomeLemmas.{IsFullHome, full_home, left_same, never_moved, never_stray}
+use Rattle.exhash.specs.SplitLemmas.{call_done, own_kept, splits_keep}
+use Rattle.exhash.specs.TurnLemmas.{turn_over}
+use Rattle.exhash.specs.WardChange.{IsSplitAway}
 use Rattle.exh_compact.proofs.PutLemmas.{absent, begun_with, done_needed, turn_needed}
 use Rattle.exh_compact.proofs.putting.put_pair.Goals as goal
 

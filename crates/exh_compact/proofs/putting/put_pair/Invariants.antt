@@ -1,4 +1,4 @@
-use Rattle.exh_file.specs.TurnLemmas.{AreTurns}
+use Rattle.exhash.specs.TurnLemmas.{AreTurns}
 use Rattle.exh_compact.specs.Needed.{AreNeeded}
 use Rattle.exh_compact.proofs.PutLemmas.{AreNeededWith}
 use Rattle.exh_compact.proofs.putting.put_pair.Given as goal

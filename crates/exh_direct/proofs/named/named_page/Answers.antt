@@ -3,8 +3,8 @@ use Rattle.std.proofs.lemmas.List.{length_push}
 use Rattle.std.specs.Io.KnownBytes.{Appends}
 use Rattle.exh_prefix.specs.Bits.{word_bits}
 use Rattle.exh_prefix.specs.declared.prefix.TheConstants.{LIMIT}
-use Rattle.exh_table.specs.declared.leaf.Leaf.{Leaf}
-use Rattle.exh_table.specs.TableWalk.{step}
+use Rattle.exh_format.specs.declared.Leaf.{Leaf}
+use Rattle.exh_format.specs.TableWalk.{step}
 use Rattle.exh_format.specs.declared.header.Header.{Header}
 use Rattle.exh_format.specs.FileVersion.{FileVersion, file_version}
 use Rattle.exh_format.specs.HeaderLemmas.{few_wards}

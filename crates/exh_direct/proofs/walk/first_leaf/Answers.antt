@@ -3,7 +3,7 @@ use Rattle.exh_prefix.specs.BitLemmas.{bits_of-number_of}
 use Rattle.exh_prefix.specs.Bits.{bits_of, word_bits}
 use Rattle.exh_prefix.specs.Leading.{leading}
 use Rattle.exh_prefix.specs.LeadingLemmas.{leading-lt, length-leading_bits}
-use Rattle.exh_table.specs.declared.leaf.Leaf.{Leaf}
+use Rattle.exh_format.specs.declared.Leaf.{Leaf}
 use Rattle.exh_direct.proofs.walk.first_leaf.Goals as goal
 
 abbrev leaf_of : List Bool → Leaf

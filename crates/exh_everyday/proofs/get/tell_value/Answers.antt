@@ -1,4 +1,4 @@
-use Rattle.exh_run.specs.SaidLemmas.{said}
+use Rattle.exh_transfer.specs.SaidLemmas.{said}
 use Rattle.exh_everyday.proofs.get.tell_value.Goals as goal
 
 pub returns-clause-ends : goal.returns-clause-ends

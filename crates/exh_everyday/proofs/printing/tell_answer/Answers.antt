@@ -1,10 +1,10 @@
 use Rattle.std.proofs.Common.{ap, subst}
 use Rattle.exh_stream.specs.Output.{writer_failed}
-use Rattle.exh_answer.specs.declared.status.Status.{Status}
+use Rattle.exh_transfer.specs.declared.Status.{Status}
 use Rattle.exh_everyday.specs.Answers.{answer_line, pair_line}
 use Rattle.std.specs.Prelude.{flat_map}
-use Rattle.exh_run.specs.Ends.{Ends, Says}
-use Rattle.exh_run.specs.SaidLemmas.{said}
+use Rattle.exh_transfer.specs.Ends.{Ends, Says}
+use Rattle.exh_transfer.specs.SaidLemmas.{said}
 use Rattle.exh_everyday.proofs.printing.tell_answer.Goals as goal
 
 pub returns-clause-ends : goal.returns-clause-ends

@@ -1,11 +1,11 @@
 use Rattle.std.proofs.Common.{◌≡◌, List, length, take, drop, refl, sym, ap, ◌∙◌, subst}
 use Rattle.exh_keyer.specs.declared.any_keyer.AnyKeyer.{AnyKeyer}
-use Rattle.exh_cells.specs.PlacedFile.{lows_of}
+use Rattle.exh_placing.specs.PlacedFile.{lows_of}
 use Rattle.exh_ward.specs.WardState.{WardState}
 use Rattle.exh_file.specs.Opened.{AreWardsOf, in_file}
 use Rattle.exh_file.specs.Placing.{IsWardOrder, ordered_pages}
-use Rattle.exh_file_faults.specs.DraftFault.{draft_fault_of}
-use Rattle.exh_file_faults.specs.declared.draft_fault.DraftFault.TheVariants.{Page}
+use Rattle.exh_file.specs.DraftFault.{draft_fault_of}
+use Rattle.exh_file.specs.declared.draft_fault.DraftFault.TheVariants.{Page}
 use Rattle.exh_file.specs.Saved.{AreSound, HasCountedOf}
 use Rattle.exh_file.proofs.Counted.{handed_on, reached}
 use Rattle.exh_file.proofs.Left.{put_back}

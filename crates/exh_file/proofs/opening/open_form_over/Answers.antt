@@ -4,9 +4,9 @@ use Rattle.exh_format.specs.PageFile.{PageFile}
 use Rattle.exh_format.specs.LegalFile.{IsOtherFault}
 use Rattle.exh_format.specs.declared.legal_file_fault.LegalFileFault.{LegalFileFault}
 use Rattle.exh_format.specs.declared.legal_file_fault.LegalFileFault.TheVariants.{File as Unread, Illegal, Memory, Read}
-use Rattle.exh_file_faults.specs.declared.open_fault.OpenFault.{OpenFault}
-use Rattle.exh_file_faults.specs.declared.open_fault.OpenFault.TheVariants.{File, Page}
-use Rattle.exh_file_faults.specs.OpenFault.{IsOtherOpening}
+use Rattle.exh_file.specs.declared.open_fault.OpenFault.{OpenFault}
+use Rattle.exh_file.specs.declared.open_fault.OpenFault.TheVariants.{File, Page}
+use Rattle.exh_file.specs.OpenFault.{IsOtherOpening}
 use Rattle.exh_file.specs.Opening.{IsOpenFaultOf, IsOpenedFile}
 use Rattle.exh_file.proofs.opening.open_form_over.Goals as goal
 

@@ -5,9 +5,9 @@ use Rattle.exh_keyer.specs.Pseudokey.{any_pseudokey}
 use Rattle.exh_format.specs.LegalFileLemmas.{count_of_wards}
 use Rattle.exh_format.specs.FileParts.{TakesFormed, file_read}
 use Rattle.exh_page.specs.declared.page.Page.{Page}
-use Rattle.exh_file_faults.specs.OpenFault.{HasCountedOne}
-use Rattle.exh_file_faults.specs.declared.open_fault.OpenFault.{OpenFault}
-use Rattle.exh_file_faults.specs.declared.open_fault.OpenFault.TheVariants.{Page as Unreached}
+use Rattle.exh_file.specs.OpenFault.{HasCountedOne}
+use Rattle.exh_file.specs.declared.open_fault.OpenFault.{OpenFault}
+use Rattle.exh_file.specs.declared.open_fault.OpenFault.TheVariants.{Page as Unreached}
 use Rattle.exh_file.proofs.OpenLegal.{count_tables, legal_wards, opened_file, wards_of_file}
 use Rattle.exh_file.proofs.opening.open_legal.Goals as goal
 

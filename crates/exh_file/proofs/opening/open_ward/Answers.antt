@@ -8,8 +8,8 @@ use Rattle.exh_page.specs.declared.page.Page.{Page}
 use Rattle.exh_ward.specs.WardState.{WardState}
 use Rattle.exh_ward.specs.declared.ward_fault.WardFault.{WardFault}
 use Rattle.exh_ward.specs.declared.ward_fault.WardFault.TheVariants.{NoPage, NotLive, NotFull, AtLimit, NoBuddy, BuddySplit, TooMany, Worn, Memory as NoMemory, Page as OutOfReach}
-use Rattle.exh_file_faults.specs.OpenFault.{open_fault_of}
-use Rattle.exh_file_faults.specs.declared.open_fault.OpenFault.TheVariants.{Page as Unreached}
+use Rattle.exh_file.specs.OpenFault.{open_fault_of}
+use Rattle.exh_file.specs.declared.open_fault.OpenFault.TheVariants.{Page as Unreached}
 use Rattle.exh_file.specs.Opening.{ward_opened}
 use Rattle.exh_file.proofs.opening.open_ward.Goals as goal
 

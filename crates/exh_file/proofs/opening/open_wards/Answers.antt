@@ -11,9 +11,9 @@ use Rattle.exh_table.specs.Table.{TableMap}
 use Rattle.exh_format.specs.declared.header.Header.{Header}
 use Rattle.exh_format.specs.declared.legal_file_fault.LegalFileFault.TheVariants.{Memory}
 use Rattle.exh_ward.specs.WardState.{WardState}
-use Rattle.exh_file_faults.specs.declared.open_fault.OpenFault.{OpenFault}
-use Rattle.exh_file_faults.specs.declared.open_fault.OpenFault.TheVariants.{File, Page as OutOfReach}
-use Rattle.exh_file_faults.specs.OpenFault.{HasCounted, HasCountedOne, IsCounted, IsOtherOpening}
+use Rattle.exh_file.specs.declared.open_fault.OpenFault.{OpenFault}
+use Rattle.exh_file.specs.declared.open_fault.OpenFault.TheVariants.{File, Page as OutOfReach}
+use Rattle.exh_file.specs.OpenFault.{HasCounted, HasCountedOne, IsCounted, IsOtherOpening}
 use Rattle.exh_file.specs.Opening.{AreOpened, IsLegalWard, IsOpenedWard}
 use Rattle.exh_file.proofs.OpenLegal.{more_opened, untouched}
 use Rattle.exh_file.proofs.opening.open_wards.Goals as goal

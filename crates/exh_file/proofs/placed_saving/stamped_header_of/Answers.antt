@@ -1,5 +1,5 @@
 use Rattle.std.proofs.Common.{sym, subst}
-use Rattle.exh_cells.specs.StampedHeader.{IsStampedHeader}
+use Rattle.exh_placing.specs.StampedHeader.{IsStampedHeader}
 use Rattle.exh_file.specs.declared.placing.Stamps.{Stamps}
 use Rattle.exh_file.specs.Opened.{in_file}
 use Rattle.exh_file.specs.Placing.{stamped_header}

@@ -7,10 +7,10 @@ use Rattle.exh_keyer.specs.declared.any_keyer.AnyKeyer.{AnyKeyer}
 use Rattle.exh_page.specs.declared.page.TheConstants.{CAP_LIMIT}
 use Rattle.exh_stream.specs.Output.{AppendsBeginning, Takes, TakesBeginning, held}
 use Rattle.exh_stream.specs.OutputLemmas.{OnErr-from, Takes-cut, Takes-finished, Takes-then, TakesBeginning-left, TakesBeginning-of_more, TakesBeginning-then}
-use Rattle.exh_cells.specs.declared.cell.Cell.{Cell}
-use Rattle.exh_cells.specs.declared.stamped_header.StampedHeader.{StampedHeader}
-use Rattle.exh_cells.specs.PlacedFile.{placed_bytes, stamped_block}
-use Rattle.exh_cells.specs.StampedHeader.{IsStampedHeader}
+use Rattle.exh_placing.specs.declared.Cell.{Cell}
+use Rattle.exh_placing.specs.declared.StampedHeader.{StampedHeader}
+use Rattle.exh_placing.specs.PlacedFile.{placed_bytes, stamped_block}
+use Rattle.exh_placing.specs.StampedHeader.{IsStampedHeader}
 use Rattle.exh_placing.specs.declared.page_at.PageAt.{PageAt}
 use Rattle.exh_placing.specs.Writing.{PlacesMakeFile, bytes_to, place_bytes}
 use Rattle.exh_placing.specs.WardFile.{ArePagesOf}

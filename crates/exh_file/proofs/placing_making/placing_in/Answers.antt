@@ -4,8 +4,8 @@ use Rattle.exh_keyer.specs.Pseudokey.{any_pseudokey}
 use Rattle.exh_keyer.specs.declared.any_keyer.AnyKeyer.{AnyKeyer}
 use Rattle.exh_page.specs.Page.{low_bound}
 use Rattle.exh_legal.specs.LegalLaws.{FittingTablesBeginWards}
-use Rattle.exh_cells.specs.CellLaws.{AreApart, AreTold}
-use Rattle.exh_cells.specs.PlacedFile.{lows_of}
+use Rattle.exh_placing.specs.CellLaws.{AreApart, AreTold}
+use Rattle.exh_placing.specs.PlacedFile.{lows_of}
 use Rattle.exh_placing.specs.declared.page_at.PageAt.{PageAt}
 use Rattle.exh_placing.specs.Placed.{HavePlaces}
 use Rattle.exh_placing.specs.PlacingLaws.{LegalWardsHavePlaces, OrdersGivePages}

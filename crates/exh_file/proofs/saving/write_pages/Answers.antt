@@ -12,7 +12,7 @@ use Rattle.exh_stream.specs.OutputLemmas.{OnErr-from, Takes-none}
 use Rattle.exh_codec.specs.PageImage.{IsInRange}
 use Rattle.exh_format.specs.PageFile.{page_block}
 use Rattle.exh_ward.specs.WardState.{WardState}
-use Rattle.exh_file_faults.specs.SaveFault.{CountsSaveFailures}
+use Rattle.exh_file.specs.SaveFault.{CountsSaveFailures}
 use Rattle.exh_file.specs.Saved.{AreUnchanged, failures_in}
 use Rattle.exh_file.proofs.Going.{all_pages_in, blocks_cut, blocks_next, one_ward, one_ward_blocks, pages_join, ward_blocks_join}
 use Rattle.exh_file.proofs.Left.{counted_as, one_counted, one_touched}

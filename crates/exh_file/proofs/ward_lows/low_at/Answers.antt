@@ -1,7 +1,7 @@
 use Rattle.std.proofs.Common.{◌≡◌, ◌<◌, get_or}
 use Rattle.std.proofs.lemmas.Option.{slice_get-get_or}
 use Rattle.std.proofs.lemmas.Result.{IfErr-weaker}
-use Rattle.exh_file_faults.specs.declared.save_fault.SaveFault.TheVariants.{Page}
+use Rattle.exh_file.specs.declared.save_fault.SaveFault.TheVariants.{Page}
 use Rattle.exh_ward.specs.WardState.{WardState}
 use Rattle.exh_keyer.specs.declared.any_keyer.AnyKeyer.{AnyKeyer}
 use Rattle.exh_file.specs.Saved.{HasCountedOf}

@@ -5,11 +5,11 @@ use Rattle.std.proofs.lemmas.Option.{slice_get-get_or, slice_get-map}
 use Rattle.exh_keyer.specs.declared.any_keyer.AnyKeyer.{AnyKeyer}
 use Rattle.exh_page.specs.Page.{low_bound}
 use Rattle.exh_page.specs.declared.page.Page.{Page}
-use Rattle.exh_cells.specs.PlacedFile.{lows_of}
+use Rattle.exh_placing.specs.PlacedFile.{lows_of}
 use Rattle.exh_placing.specs.declared.page_at.PageAt.{PageAt}
 use Rattle.exh_ward.specs.WardState.{WardState}
 use Rattle.exh_file.specs.Placing.{ordered_pages, own_pages}
-use Rattle.exh_file_faults.specs.declared.save_fault.SaveFault.TheVariants.{Page as OutOfReach}
+use Rattle.exh_file.specs.declared.save_fault.SaveFault.TheVariants.{Page as OutOfReach}
 use Rattle.exh_file.specs.Saved.{HasCountedOf}
 use Rattle.exh_file.proofs.Counted.{handed_on}
 use Rattle.exh_file.proofs.Lists.{next_is}

@@ -1,5 +1,5 @@
 use Rattle.std.proofs.Common.{◌≡◌, take}
-use Rattle.exh_cells.specs.PlacedFile.{lows_of}
+use Rattle.exh_placing.specs.PlacedFile.{lows_of}
 use Rattle.exh_file.specs.Placing.{ordered_pages}
 use Rattle.exh_file.proofs.ward_lows.lows_in.Given as goal
 

@@ -7,7 +7,7 @@ use Rattle.exh_prefix.specs.Layout.{layout}
 use Rattle.exh_prefix.specs.PrefixListLemmas.{AllByRecursion-push}
 use Rattle.exh_keyer.specs.Pseudokey.{any_pseudokey}
 use Rattle.exh_format.specs.FileParts.{TakesFormed, pages_read}
-use Rattle.exh_page.specs.declared.page.Page.{Page}
+use Rattle.exh_legal.specs.declared.Page.{Page}
 use Rattle.exh_format.specs.Reading.{FailsInPages, GivesPages, IsOf}
 use Rattle.exh_format.proofs.Pages.{fails_later, more_pages, of_later, err_is, failed_so, still_open, sum_more_le}
 use Rattle.exh_format.proofs.read_pages.read_wards.Goals as goal

@@ -2,7 +2,7 @@ use Rattle.std.proofs.Common.{◌≡◌, ◌≤◌, ℕ, ◌+◌, ◌-◌, ◌*�
 use Rattle.std.proofs.lemmas.List.{take_all, length-drop}
 use Rattle.exh_prefix.specs.Layout.{layout}
 use Rattle.exh_prefix.specs.LayoutLemmas.{layout_fits}
-use Rattle.exh_notice.specs.NoticeImages.{FailsFirst}
+use Rattle.exh_legal.specs.NoticeImages.{FailsFirst}
 use Rattle.exh_format.specs.declared.file_entry.FileEntry.{FileEntry}
 use Rattle.exh_format.specs.TableImage.{AreEntries}
 use Rattle.exh_format.proofs.TableBytes.{next_entry}

@@ -1,7 +1,7 @@
 use Rattle.std.proofs.Common.{◌≡◌, ℕ, zero, suc, ◌+◌, List, [], ◌∷◌, ◌++◌, length, get_or, refl, ap, ◌∙◌}
 use Rattle.std.proofs.lemmas.List.{length_push}
 use Rattle.std.specs.FinMap.{empty}
-use Rattle.exh_table.specs.Table.{TableMap}
+use Rattle.exh_legal.specs.Table.{TableMap}
 use Rattle.exh_format.proofs.tables.empty_tables.Goals as goal
 
 none_more : (tables : List TableMap) → ((number : ℕ) → get_or tables number empty ≡ empty) → (number : ℕ) → get_or (tables ++ empty ∷ []) number empty ≡ empty

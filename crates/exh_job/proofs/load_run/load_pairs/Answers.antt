@@ -3,7 +3,7 @@ use Rattle.std.specs.Io.KnownBytes.{Appends}
 use Rattle.exh_stream.specs.Output.{AppendsBeginning}
 use Rattle.exh_load.specs.Load.{IsLoadOf, PrintsFront, beginning, load_of}
 use Rattle.exh_job.specs.LoadRun.{LoadPrints}
-use Rattle.exh_answer.specs.LastLine.{memory_line}
+use Rattle.exh_job.specs.LastLine.{memory_line}
 use Rattle.exh_job.proofs.LoadLemmas.{load_line_cut, load_line_out, load_write_fault, memory_writes}
 use Rattle.exh_job.proofs.load_run.load_pairs.Goals as goal
 

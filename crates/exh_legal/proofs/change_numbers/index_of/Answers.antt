@@ -1,7 +1,7 @@
 use Rattle.std.proofs.Common.{◌≡◌, ℕ, ◌+◌, Bool, List, ◌∷◌, length, ap, arith}
 use Rattle.std.specs.List.{sum_by}
 use Rattle.std.proofs.lemmas.List.Sums.{sum_by-cons}
-use Rattle.exh_notice.specs.declared.entry.Entry.{Entry}
+use Rattle.exh_table.specs.declared.Entry.{Entry}
 use Rattle.exh_legal.proofs.TableSteps.{weight}
 use Rattle.exh_legal.proofs.change_numbers.index_of.Goals as goal
 

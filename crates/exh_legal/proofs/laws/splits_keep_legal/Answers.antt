@@ -1,6 +1,6 @@
 use Rattle.std.proofs.Common.{◌≡◌, ◌<◌, true, refl, sym, ap, ◌∙◌, subst, [], ◌∷◌, ◌++◌, arith}
 use Rattle.exh_prefix.specs.Prefix.{IsFront, low_of}
-use Rattle.exh_notice.specs.declared.entry.Kind.TheVariants.{Split}
+use Rattle.exh_table.specs.declared.Kind.TheVariants.{Split}
 use Rattle.exh_page.specs.Page.{low_bound, with_records}
 use Rattle.exh_legal.specs.BareLemmas.{bare_at, at_bare, bare_low}
 use Rattle.exh_legal.specs.Growth.{IsPageOf}

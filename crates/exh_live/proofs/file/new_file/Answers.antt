@@ -1,8 +1,8 @@
 use Rattle.std.proofs.Common.{ap, arith}
 use Rattle.std.proofs.lemmas.Result.{IfOk-from_err, IfOk-weaker}
 use Rattle.exh_keyer.specs.declared.sha_keyer.ShaKeyer.{ShaKeyer}
-use Rattle.exh_live_file.specs.LiveFile.{LiveState}
-use Rattle.exh_live_file.specs.LiveWardLemmas.{answered_nothing}
+use Rattle.exh_live.specs.LiveFile.{LiveState}
+use Rattle.exh_live.specs.LiveWardLemmas.{answered_nothing}
 use Rattle.exh_live.proofs.file.new_file.Goals as goal
 
 pub overflow_cast-settings : goal.overflow_cast-settings

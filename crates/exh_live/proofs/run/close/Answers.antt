@@ -2,10 +2,10 @@ use Rattle.std.proofs.Common.{◌≡◌, ◌^◌, List, length, inl, inr, ap, sy
 use Rattle.std.proofs.lemmas.List.{length-map}
 use Rattle.std.proofs.lemmas.Result.{IfErr-weaker}
 use Rattle.exh_live.specs.Refusals.{IsUnsettled}
-use Rattle.exh_live_file.specs.Closing.{IsCloseFault, close_fault_number, seat_of}
-use Rattle.exh_live_file.specs.LiveFile.{LiveState, SeatState}
-use Rattle.exh_live_file.specs.declared.close.CloseFault.{CloseFault}
-use Rattle.exh_live_file.specs.declared.close.CloseFault.TheVariants.{Seats as Missing, Memory as NoRoom}
+use Rattle.exh_live.specs.Closing.{IsCloseFault, close_fault_number, seat_of}
+use Rattle.exh_live.specs.LiveFile.{LiveState, SeatState}
+use Rattle.exh_live.specs.declared.close.CloseFault.{CloseFault}
+use Rattle.exh_live.specs.declared.close.CloseFault.TheVariants.{Seats as Missing, Memory as NoRoom}
 use Rattle.exh_live.specs.StormFault.{storm_fault_number}
 use Rattle.exh_live.specs.declared.fault.StormFault.{StormFault}
 use Rattle.exh_live.specs.declared.fault.StormFault.TheVariants.{Memory, Page, Held, Mismatch, Seats}

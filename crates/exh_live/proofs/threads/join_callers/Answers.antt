@@ -3,11 +3,11 @@ use Rattle.std.specs.Prelude.{MatchResult}
 use Rattle.std.specs.Vec.Iter.{into_iter_items}
 use Rattle.std.specs.declared.thread.PromisedHandle.{PromisedHandle}
 use Rattle.std.proofs.lemmas.List.Elements.{All-nil, All-push, All-same}
-use Rattle.exh_settings.specs.declared.storm_config.StormConfig.{StormConfig}
-use Rattle.exh_live_file.specs.CursorPlaceLemmas.{AreFirst}
+use Rattle.exh_page.specs.declared.storm_config.StormConfig.{StormConfig}
+use Rattle.exh_live.specs.CursorPlaceLemmas.{AreFirst}
 use Rattle.exh_live.specs.Refusals.{HasCounted, IsRefusedCaller, Outcome}
 use Rattle.exh_live.specs.StormCalls.{IsServed}
-use Rattle.exh_live_file.specs.declared.seat.Seat.{Seat}
+use Rattle.exh_live.specs.declared.seat.Seat.{Seat}
 use Rattle.exh_live.specs.declared.fault.StormFault.{StormFault}
 use Rattle.exh_live.specs.declared.fault.StormFault.TheVariants.{Memory}
 use Rattle.exh_live.specs.declared.threads.Worker.{Worker}

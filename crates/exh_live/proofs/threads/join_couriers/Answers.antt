@@ -3,8 +3,8 @@ use Rattle.std.specs.Prelude.{MatchResult}
 use Rattle.std.specs.Vec.Iter.{into_iter_items}
 use Rattle.std.specs.declared.thread.PromisedHandle.{PromisedHandle}
 use Rattle.std.proofs.lemmas.Result.{IfOk-from_err}
-use Rattle.exh_settings.specs.declared.storm_config.StormConfig.{StormConfig}
-use Rattle.exh_live_file.specs.CursorPlaceLemmas.{AreFirst}
+use Rattle.exh_page.specs.declared.storm_config.StormConfig.{StormConfig}
+use Rattle.exh_live.specs.CursorPlaceLemmas.{AreFirst}
 use Rattle.exh_live.specs.Refusals.{HasCounted, IsRefusedCourier, Outcome}
 use Rattle.exh_live.specs.declared.courier.Courier.{Courier}
 use Rattle.exh_live.specs.declared.fault.StormFault.{StormFault}

@@ -3,7 +3,7 @@ use Rattle.std.specs.Prelude.{MatchResult}
 use Rattle.std.specs.declared.thread.PromisedHandle.{PromisedHandle}
 use Rattle.std.proofs.lemmas.Nat.{shl_whole}
 use Rattle.std.proofs.lemmas.Result.{IfOk-from_err}
-use Rattle.exh_live_file.specs.CursorPlaceLemmas.{AreFirst, one_more}
+use Rattle.exh_live.specs.CursorPlaceLemmas.{AreFirst, one_more}
 use Rattle.exh_live.specs.Refusals.{HasCounted, Outcome}
 use Rattle.exh_live.specs.StormRounds.{IsKeeperFault}
 use Rattle.exh_live.specs.declared.fault.StormFault.{StormFault}

@@ -1,6 +1,6 @@
 use Rattle.std.proofs.Common.{◌≡◌}
 use Rattle.std.specs.Prelude.{MatchResult}
-use Rattle.exh_live_file.specs.CursorPlaceLemmas.{AreFirst}
+use Rattle.exh_live.specs.CursorPlaceLemmas.{AreFirst}
 use Rattle.exh_live.specs.declared.fault.StormFault.TheVariants.{Memory}
 use Rattle.exh_live.proofs.threads.start_keepers.Given as goal
 

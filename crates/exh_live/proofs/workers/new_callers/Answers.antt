@@ -1,6 +1,6 @@
 use Rattle.std.proofs.Common.{rules, ◌≡◌, ◌+◌, ap, ◌∙◌}
-use Rattle.exh_live_file.specs.LiveFile.{SeatState}
-use Rattle.exh_live_file.specs.CursorPlaceLemmas.{one_more}
+use Rattle.exh_live.specs.LiveFile.{SeatState}
+use Rattle.exh_live.specs.CursorPlaceLemmas.{one_more}
 use Rattle.exh_live.specs.declared.caller.Caller.{Caller}
 use Rattle.exh_live.proofs.workers.new_callers.Goals as goal
 

@@ -1,5 +1,5 @@
 use Rattle.std.proofs.Common.{◌≡◌, ◌+◌, ◌<◌, length}
-use Rattle.exh_live_file.specs.CursorPlaceLemmas.{AreFirst}
+use Rattle.exh_live.specs.CursorPlaceLemmas.{AreFirst}
 use Rattle.exh_live.proofs.workers.new_callers.Given as goal
 
 -- there are readers, and a seat for each caller so far, which has its number

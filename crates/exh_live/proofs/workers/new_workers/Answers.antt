@@ -1,5 +1,5 @@
 use Rattle.std.proofs.Common.{rules, ◌≡◌, ◌+◌, ℕ, [], subst}
-use Rattle.exh_live_file.specs.CursorPlaceLemmas.{AreFirst, one_more}
+use Rattle.exh_live.specs.CursorPlaceLemmas.{AreFirst, one_more}
 use Rattle.exh_live.specs.declared.courier.Courier.{Courier}
 use Rattle.exh_live.proofs.RoundsOn.{so_many}
 use Rattle.exh_live.proofs.workers.new_workers.Goals as goal

@@ -1,5 +1,5 @@
 use Rattle.std.proofs.Common.{◌≡◌, ◌+◌, [], length}
-use Rattle.exh_live_file.specs.CursorPlaceLemmas.{AreFirst}
+use Rattle.exh_live.specs.CursorPlaceLemmas.{AreFirst}
 use Rattle.exh_live.proofs.workers.new_workers.Given as goal
 
 -- the readers of the copies so far, and a courier to each, which has its number

@@ -1,9 +1,9 @@
 use Rattle.std.proofs.Common.{◌≡◌, ◌<◌, length, ap, ◌∙◌, arith}
 use Rattle.exh_calls.specs.Call.{key_of}
 use Rattle.exh_keyer.specs.Pseudokey.{any_pseudokey}
-use Rattle.exh_file.specs.Opened.{in_file}
+use Rattle.exh_in_place.specs.Opened.{in_file}
 use Rattle.exh_prefix.specs.Leading.{ward_of}
-use Rattle.exh_file.specs.InWardLemmas.{at_within, ward_covers, ward_hashed}
+use Rattle.exh_in_place.specs.InWardLemmas.{at_within, ward_covers, ward_hashed}
 use Rattle.exh_map.proofs.CallLemmas.{kept_in, one_in, settings_of, ward_there}
 use Rattle.exh_map.proofs.SetLemmas.{wards_set}
 use Rattle.exh_map.proofs.answering.answer_in.Goals as goal

@@ -1,6 +1,6 @@
 use Rattle.std.proofs.Common.{ℕ, List, Result, Ok, Err, IfOk, sym, subst}
-use Rattle.exh_file.specs.Opened.{OpenedState, in_file}
-use Rattle.exh_file.specs.Reopened.{IsKept, IsReopened, OpensAs}
+use Rattle.exh_in_place.specs.Opened.{OpenedState, in_file}
+use Rattle.exh_in_place.specs.Reopened.{IsKept, IsReopened, OpensAs}
 use Rattle.exh_map.specs.declared.store_error.StoreError.{StoreError}
 use Rattle.exh_map.proofs.copying.copied.Goals as goal
 

@@ -1,5 +1,5 @@
 use Rattle.std.proofs.Common.{ℕ, List, sym, subst}
-use Rattle.exh_file.specs.Reopened.{OpensAs}
+use Rattle.exh_in_place.specs.Reopened.{OpensAs}
 use Rattle.exh_map.proofs.copying.opened_of.Goals as goal
 
 pub returns-in-Ok-clause-copy : goal.returns-in-Ok-clause-copy

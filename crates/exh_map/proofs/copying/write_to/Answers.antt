@@ -2,8 +2,8 @@ use Rattle.std.proofs.Common.{◌≡◌, ℕ, List, Option, OnOk, sym, subst, ru
 use Rattle.std.specs.Io.KnownBytes.{Appends}
 use Rattle.exh_format.specs.FileVersion.{written_format}
 use Rattle.exh_format.specs.PageFile.{file_bytes}
-use Rattle.exh_file.specs.Opened.{in_file}
-use Rattle.exh_file.specs.Saved.{written_file}
+use Rattle.exh_in_place.specs.Opened.{in_file}
+use Rattle.exh_in_place.specs.Saved.{written_file}
 use Rattle.exh_map.proofs.copying.write_to.Goals as goal
 
 -- what a writer gets, by its values before and after

@@ -1,9 +1,9 @@
 use Rattle.std.proofs.Common.{◌≡◌, ℕ, List, ◌++◌, sym, ap, ◌∙◌, subst}
 use Rattle.exh_format.specs.FileVersion.{written_format}
 use Rattle.exh_format.specs.PageFile.{file_bytes}
-use Rattle.exh_file.specs.Opened.{in_file}
-use Rattle.exh_file.specs.Reopened.{IsKept}
-use Rattle.exh_file.specs.Saved.{written_file}
+use Rattle.exh_in_place.specs.Opened.{in_file}
+use Rattle.exh_in_place.specs.Reopened.{IsKept}
+use Rattle.exh_in_place.specs.Saved.{written_file}
 use Rattle.exh_map.proofs.copying.written.Goals as goal
 
 pub returns-in-Ok-clause-kept : goal.returns-in-Ok-clause-kept

@@ -6,7 +6,7 @@ use Rattle.exh_prefix.specs.PrefixListLemmas.{one_there}
 use Rattle.exh_keyer.specs.Pseudokey.{any_pseudokey}
 use Rattle.exh_keyer.specs.declared.any_keyer.AnyKeyer.{AnyKeyer}
 use Rattle.exh_ward.specs.WardState.{IsSoundWard, WardState}
-use Rattle.exh_file.specs.Opened.{AreWardsOf, in_file}
+use Rattle.exh_in_place.specs.Opened.{AreWardsOf, in_file}
 use Rattle.exh_map.specs.FileMap.{KeepsMap}
 use Rattle.exh_map.proofs.OnceLemmas.{file_once, has_all}
 use Rattle.exh_map.proofs.PairsLemmas.{set_same, wards_on}

@@ -3,7 +3,7 @@ use Rattle.std.specs.Prelude.{slice_set}
 use Rattle.std.proofs.lemmas.Option.{slice_get_read}
 use Rattle.exh_keyer.specs.declared.any_keyer.AnyKeyer.{AnyKeyer}
 use Rattle.exh_ward.specs.WardState.{WardState}
-use Rattle.exh_file.specs.Opened.{AreWardsOf, in_file}
+use Rattle.exh_in_place.specs.Opened.{AreWardsOf, in_file}
 use Rattle.exh_map.specs.FileMap.{KeepsMap}
 use Rattle.exh_map.proofs.SetLemmas.{keeps_set, unchanged_same, wards_set}
 use Rattle.exh_map.proofs.places.lows_grown.Goals as goal

@@ -1,7 +1,7 @@
 use Rattle.std.proofs.Common.{◌≡◌, [], Option, refl, sym, ◌∙◌, ap, subst}
 use Rattle.std.specs.Io.KnownBytes.{Appends}
 use Rattle.exh_commit.specs.PagedFile.{bytes_in, files_in, known_in}
-use Rattle.exh_edits.specs.Comparison.{Comparison, comparison_of, contents_of}
+use Rattle.exh_commit.specs.Comparison.{Comparison, comparison_of, contents_of}
 use Rattle.exh_file.specs.Draft.{bytes_in as draft_bytes}
 use Rattle.exh_paged.specs.SaveFilesFault.{IsOfContent}
 use Rattle.exh_paged.proofs.CallLemmas.{each_known}

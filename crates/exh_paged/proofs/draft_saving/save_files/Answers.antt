@@ -1,5 +1,5 @@
 use Rattle.std.proofs.Common.{◌≡◌, ℕ, List, ◌∙◌, subst, inl, inr}
-use Rattle.exh_edits.specs.BlockEdits.{with_edits}
+use Rattle.exh_commit.specs.BlockEdits.{with_edits}
 use Rattle.exh_commit.specs.PagedFile.{IsOldOrEdited, bytes_in, files_in}
 use Rattle.exh_paged.specs.declared.expected.Expected.TheVariants.{Stamp}
 use Rattle.exh_paged.specs.OwnLog.{HasStamp}

@@ -1,8 +1,8 @@
-use Rattle.std.proofs.Common.{◌≡◌, ℕ, List, ◌∙◌, sym, subst}
+use Rattle.std.proofs.Common.{◌≡◌, ℕ, List, ◌∙◌, refl, sym, subst}
 use Rattle.exh_commit.specs.PagedFile.{bytes_in, files_in}
 use Rattle.exh_paged.specs.FilesFault.{IsCause}
 use Rattle.exh_paged.specs.OwnLog.{IsExpected}
-use Rattle.exh_paged.proofs.FilesLemmas.{clean_as, found_leaves, leaves_as}
+use Rattle.exh_paged.proofs.FilesLemmas.{alone_when, clean_as, found_leaves, leaves_as, leaves_when}
 use Rattle.exh_paged.proofs.opening.open_expected.Goals as goal
 
 pub returns-in-Err-clause-unchanged : goal.returns-in-Err-clause-unchanged
@@ -27,11 +27,35 @@ returns-in-Err-see_expected-clause-early g c = c.in-Err-see_expected.ensures.ear
 pub returns-in-Err-see_expected-clause-unsaved : goal.returns-in-Err-see_expected-clause-unsaved
 returns-in-Err-see_expected-clause-unsaved g c saved = c.in-Err-see_expected.ensures.unsaved saved
 
-pub returns-clause-ready : goal.returns-clause-ready
-returns-clause-ready g c = c.see_expected.ensures.ready ∙ c.in-Ok.ensures.ready
+-- ---- what the log has couldn't be copied
+
+pub returns-in-Err-settle-clause-unchanged : goal.returns-in-Err-settle-clause-unchanged
+returns-in-Err-settle-clause-unchanged g c old found =
+    let end = c.settle.new.self in
+    leaves_as g.D.Disk (files_in end) (c.close-in-Err-settle.result.log, c.close-in-Err-settle.result.db) (λ was bytes. bytes ≡ was) (bytes_in c.see_expected.new.file) old c.close-in-Err-settle.ensures
+    (λ clean. let seen = c.settle.ensures.keeps.stays.clean clean in
+    c.see_expected.ensures.same_bytes ∙ c.in-Ok.ensures.one (c.see_expected.ensures.keeps.stays.clean seen) old found) c.settle.ensures.crash
+
+-- ---- the file alone has it
 
 pub returns-clause-one : goal.returns-clause-one
-returns-clause-one g c honest old found = c.see_expected.ensures.same_bytes ∙ c.in-Ok.ensures.one (c.see_expected.ensures.keeps.stays.clean honest) old found
+returns-clause-one g c honest old found =
+    let seen = c.settle.ensures.keeps.stays.clean honest in
+    c.settle.ensures.bytes c.in_default-settle.ensures.ready honest ∙ c.see_expected.ensures.same_bytes ∙ c.in-Ok.ensures.one (c.see_expected.ensures.keeps.stays.clean seen) old found
 
 pub returns-clause-expected : goal.returns-clause-expected
-returns-clause-expected g c honest = subst (λ (bytes : List ℕ). IsExpected c.args.expected bytes) (sym c.see_expected.ensures.same_bytes) (c.in_default.ensures.expected honest)
+returns-clause-expected g c honest =
+    let seen = c.settle.ensures.keeps.stays.clean honest in
+    subst (λ (bytes : List ℕ). IsExpected c.args.expected bytes) (sym (c.settle.ensures.bytes c.in_default-settle.ensures.ready honest ∙ c.see_expected.ensures.same_bytes)) (c.in_default.ensures.expected seen)
+
+pub returns-clause-alone : goal.returns-clause-alone
+returns-clause-alone g c =
+    let end = c.settle.new.self in
+    alone_when g.D.Disk (files_in end) (files_in end) (λ bytes. bytes ≡ bytes_in c.see_expected.new.file) (λ bytes. bytes ≡ bytes_in end) refl
+    (λ clean bytes is. is ∙ sym (c.settle.ensures.bytes c.in_default-settle.ensures.ready clean)) c.in_default-settle.ensures.alone
+
+pub returns-clause-crash : goal.returns-clause-crash
+returns-clause-crash g c =
+    let end = c.settle.new.self in
+    leaves_when g.D.Disk (files_in end) (files_in end) (λ bytes. bytes ≡ bytes_in c.see_expected.new.file) (λ bytes. bytes ≡ bytes_in end) refl
+    (λ clean bytes is. is ∙ sym (c.settle.ensures.bytes c.in_default-settle.ensures.ready clean)) c.settle.ensures.crash

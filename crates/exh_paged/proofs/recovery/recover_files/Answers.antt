@@ -4,26 +4,20 @@ use Rattle.exh_paged.specs.OwnLog.{IsExpected}
 use Rattle.exh_paged.proofs.FilesLemmas.{alone_as, clean_as, leaves_as}
 use Rattle.exh_paged.proofs.recovery.recover_files.Goals as goal
 
--- ---- what is committed stands in the log
+pub returns-in-Ok-clause-crash : goal.returns-in-Ok-clause-crash
+returns-in-Ok-clause-crash g c old found =
+    let it = c.in-Ok.file in
+    leaves_as g.D.Disk (files_in it) (c.close.result.log, c.close.result.db) (λ was bytes. bytes ≡ was) (bytes_in it) old c.close.ensures
+    (λ clean. c.in-Ok.ensures.one clean old found) c.in-Ok.ensures.crash
 
-pub returns-in-Err-settle-clause-crash : goal.returns-in-Err-settle-clause-crash
-returns-in-Err-settle-clause-crash g c old found =
-    leaves_as g.D.Disk (files_in c.settle.new.self) (c.close.result.log, c.close.result.db) (λ was bytes. bytes ≡ was) (bytes_in c.in-Ok.file) old c.close.ensures
-    (λ clean. c.in-Ok.ensures.one (c.settle.ensures.keeps.stays.clean clean) old found) c.settle.ensures.crash
+pub returns-in-Ok-clause-ok : goal.returns-in-Ok-clause-ok
+returns-in-Ok-clause-ok g c old found =
+    let it = c.in-Ok.file in
+    alone_as g.D.Disk (files_in it) (c.close.result.log, c.close.result.db) (λ was bytes. bytes ≡ was) (bytes_in it) old c.close.ensures
+    (λ clean. c.in-Ok.ensures.one clean old found) c.in-Ok.ensures.alone
 
--- ---- the file alone has it
-
-pub returns-clause-crash : goal.returns-clause-crash
-returns-clause-crash g c old found =
-    leaves_as g.D.Disk (files_in c.settle.new.self) (c.close-2.result.log, c.close-2.result.db) (λ was bytes. bytes ≡ was) (bytes_in c.in-Ok.file) old c.close-2.ensures
-    (λ clean. c.in-Ok.ensures.one (c.settle.ensures.keeps.stays.clean clean) old found) c.settle.ensures.crash
-
-pub returns-clause-ok : goal.returns-clause-ok
-returns-clause-ok g c old found =
-    alone_as g.D.Disk (files_in c.settle.new.self) (c.close-2.result.log, c.close-2.result.db) (λ was bytes. bytes ≡ was) (bytes_in c.in-Ok.file) old c.close-2.ensures
-    (λ clean. c.in-Ok.ensures.one (c.settle.ensures.keeps.stays.clean clean) old found) c.in_default.ensures.alone
-
-pub returns-clause-expected : goal.returns-clause-expected
-returns-clause-expected g c clean old found =
-    let honest = c.settle.ensures.keeps.stays.clean (clean_as g.D.Disk (files_in c.settle.new.self) (c.close-2.result.log, c.close-2.result.db) c.close-2.ensures clean) in
+pub returns-in-Ok-clause-expected : goal.returns-in-Ok-clause-expected
+returns-in-Ok-clause-expected g c clean old found =
+    let it = c.in-Ok.file in
+    let honest = clean_as g.D.Disk (files_in it) (c.close.result.log, c.close.result.db) c.close.ensures clean in
     subst (λ (bytes : List ℕ). IsExpected c.args.expected bytes) (c.in-Ok.ensures.one honest old found) (c.in-Ok.ensures.expected honest)

@@ -1,5 +1,5 @@
 use Rattle.std.proofs.Common.{◌≡◌, refl, ◌∙◌, inr}
-use Rattle.exh_edits.specs.BlockEdits.{with_edits}
+use Rattle.exh_commit.specs.BlockEdits.{with_edits}
 use Rattle.exh_commit.specs.PagedFile.{IsOldOrEdited, bytes_in, files_in}
 use Rattle.exh_paged.proofs.FilesLemmas.{alone_when, leaves_when}
 use Rattle.exh_paged.proofs.saving.save_edits.Goals as goal

@@ -2,7 +2,7 @@ use Rattle.std.proofs.Common.{◌≡◌, ℕ, Bool, List, [], refl, sym, ◌∙�
 use Rattle.sqlite_wal.specs.Files.{seen_image}
 use Rattle.exh_calls.specs.declared.call.Call.{Call}
 use Rattle.exh_cells.specs.PlacedFile.{PlacedFile}
-use Rattle.exh_batch.specs.Batch.{map_then_all}
+use Rattle.exh_change.specs.Batch.{map_then_all}
 use Rattle.exh_commit.specs.FilePages.{LeavesAlone, StandsFor}
 use Rattle.exh_paged.specs.declared.answered.Answered.{Answered}
 use Rattle.exh_paged.specs.CallChange.{IsAnswered, OfLegal}

@@ -1,5 +1,5 @@
 use Rattle.std.proofs.Common.{◌≡◌, drop, map}
-use Rattle.exh_words.specs.Line.{placed_word}
+use Rattle.exh_request.specs.Line.{placed_word}
 use Rattle.exh_request.specs.Request.{several_asked}
 use Rattle.exh_request.proofs.KeysBefore.{behind_keys}
 use Rattle.exh_request.proofs.asking.several.Given as goal

@@ -1,6 +1,6 @@
 use Rattle.std.proofs.Common.{◌≡◌, ◌⊎◌, inl, inr}
 use Rattle.std.specs.Prelude.{string_bytes}
-use Rattle.exh_disk.specs.Folder.{IsFolderOf}
+use Rattle.exh_saving.specs.Folder.{IsFolderOf}
 use Rattle.exh_saving.specs.Replaced.{IsFree}
 use Rattle.exh_saving.proofs.Handed.{handed_on}
 use Rattle.exh_saving.proofs.looking.look.Goals as goal

@@ -1,7 +1,7 @@
 use Rattle.std.proofs.Common.{sym, ap, ◌∙◌, subst}
 use Rattle.exh_keyer.specs.declared.any_keyer.AnyKeyer.{AnyKeyer}
-use Rattle.exh_settings.specs.declared.file_settings.FileSettings.{FileSettings}
-use Rattle.exh_file.specs.Opened.{AreWardsOf, in_file}
+use Rattle.exh_page.specs.declared.file_settings.FileSettings.{FileSettings}
+use Rattle.exh_load.specs.Opened.{AreWardsOf, in_file}
 use Rattle.exh_script.proofs.OpenedLemmas.{left_is, wards_of}
 use Rattle.exh_script.proofs.beginning.leave.Goals as goal
 

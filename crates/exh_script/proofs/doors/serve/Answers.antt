@@ -1,6 +1,6 @@
 use Rattle.std.proofs.Common.{◌≡◌, ◌⊎◌, ℕ, List, Option, inl, inr, ap, ◌∙◌}
 use Rattle.std.specs.Io.KnownBytes.{Appends}
-use Rattle.exh_file.specs.Opened.{OpenedState}
+use Rattle.exh_load.specs.Opened.{OpenedState}
 use Rattle.exh_script.specs.Left.{ended_with}
 use Rattle.exh_script.specs.ScriptLaws.{DoneRunsLeaveWards}
 use Rattle.exh_script.specs.Served.{EndsUnread, PrintsToEnd, PrintsUnread, PrintsWhole}

@@ -1,5 +1,5 @@
 use Rattle.std.proofs.Common.{◌≡◌, ◌⊎◌, ℕ, List, [], ◌∷◌, Option, None, Result, Ok, Err, IfOk, OnOk, OnErr, inl, inr, sym, ap, ◌∙◌, subst}
-use Rattle.exh_file.specs.Opened.{OpenedState}
+use Rattle.exh_load.specs.Opened.{OpenedState}
 use Rattle.exh_stream.specs.Output.{Takes, TakesBeginning}
 use Rattle.exh_text.specs.FileLine.{file_line_of}
 use Rattle.exh_text.specs.TextLines.{lines_of}

@@ -1,6 +1,6 @@
 use Rattle.std.proofs.Common.{◌≡◌, ◌≢◌, Err, inr, refl, sym, subst, arith, rules}
 use Rattle.std.proofs.lemmas.Result.{IfOk-from_err}
-use Rattle.exh_event.specs.declared.step_fault.StepFault.TheVariants.{Ward}
+use Rattle.exh_walk.specs.declared.step_fault.StepFault.TheVariants.{Ward}
 use Rattle.exh_ward.specs.declared.ward_fault.WardFault.TheVariants.{Memory, Page}
 use Rattle.exh_world.specs.WorldLaws.{HasVersionOfWord}
 use Rattle.exh_line.specs.LineAnswer.{outcome_answer}

@@ -1,7 +1,7 @@
 use Rattle.std.proofs.Common.{rules, ◌≡◌, ℕ, sym, ◌∙◌, arith, Bool, true, false, IsTrue, ◌↔◌}
 use Rattle.byteorder.specs.Endian.{big_from}
-use Rattle.exh_format.specs.HeaderTests.{HasMagic, IsOfVersion}
-use Rattle.exh_cells.specs.StampedHeader.{placed_format}
+use Rattle.exh_direct.specs.HeaderTests.{HasMagic, IsOfVersion}
+use Rattle.exh_file.specs.StampedHeader.{placed_format}
 use Rattle.exh_system.proofs.Numbers.{number_in}
 use Rattle.exh_system.proofs.front.front_in.Goals as goal
 

@@ -1,5 +1,5 @@
 use Rattle.std.proofs.Common.{◌≡◌}
-use Rattle.exh_text.specs.TextLines.{parts_at, space}
+use Rattle.exh_file.specs.TextLines.{parts_at, space}
 use Rattle.exh_system.specs.SizeLimit.{first_full}
 use Rattle.exh_system.proofs.size_limit.first_word.Given as goal
 

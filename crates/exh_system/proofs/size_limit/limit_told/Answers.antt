@@ -1,7 +1,7 @@
 use Rattle.std.proofs.Common.{◌≡◌, ◌-◌, Bool, true, cond, codes, drop, length, nat_eq, sym, ap, ◌∙◌, arith}
 use Rattle.std.proofs.lemmas.List.{length-drop, take_all}
 use Rattle.std.specs.List.{starts_with}
-use Rattle.exh_text.specs.Numbers.{index_spelled}
+use Rattle.exh_file.specs.Numbers.{index_spelled}
 use Rattle.exh_system.specs.SizeLimit.{first_word, number_behind}
 use Rattle.exh_system.proofs.size_limit.limit_told.Goals as goal
 

@@ -1,5 +1,5 @@
 use Rattle.std.proofs.Common.{◌≡◌, codes}
-use Rattle.exh_text.specs.TextLines.{newline, parts_at}
+use Rattle.exh_file.specs.TextLines.{newline, parts_at}
 use Rattle.exh_system.specs.SizeLimit.{number_behind}
 use Rattle.exh_system.proofs.size_limit.limit_told.Given as goal
 

@@ -8,7 +8,7 @@ use Rattle.exh_format.specs.PageFile.{PageFile}
 use Rattle.exh_versions.specs.AnyFile.{any_file_read}
 use Rattle.exh_versions.specs.FirstFault.{IsFirstFaultOf}
 use Rattle.exh_versions.specs.LegalBytes.{SaysPlaced}
-use Rattle.exh_placed.specs.LegalReading.{IsLegalPlacedFaultOf}
+use Rattle.exh_versions.specs.LegalReading.{IsLegalPlacedFaultOf}
 use Rattle.exh_versions.specs.VersionLemmas.{says_placed, says_plain}
 use Rattle.exh_versions.proofs.Read.{known_again, plain_fault, placed_fault, says_same}
 use Rattle.exh_versions.proofs.reading.read_any_file.Goals as goal

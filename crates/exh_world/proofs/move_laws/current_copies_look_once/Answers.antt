@@ -4,8 +4,8 @@ use Rattle.exh_world.specs.InFlight.{request_named}
 use Rattle.exh_world.specs.Step.{pseudokey_in, request_begun}
 use Rattle.exh_world.specs.StepEffectLemmas.{step_hopped}
 use Rattle.exh_world.specs.World.{WorldState, changes_in}
-use Rattle.exh_event.specs.declared.event.Event.TheVariants.{Begin}
-use Rattle.exh_event.specs.declared.outcome.Outcome.TheVariants.{Begun}
+use Rattle.exh_walk.specs.declared.event.Event.TheVariants.{Begin}
+use Rattle.exh_walk.specs.declared.outcome.Outcome.TheVariants.{Begun}
 use Rattle.exh_world.specs.declared.request.Request.{Request}
 use Rattle.exh_world.specs.Counted.{IsAway, moves_over}
 use Rattle.exh_world.proofs.CountedAnswers.{at_home, no_distance, first_hop}

@@ -6,10 +6,10 @@ use Rattle.exh_world.specs.WorldLaws.{AreWardsSound}
 use Rattle.exh_world.specs.RequestMoves.{IsBounded}
 use Rattle.exh_world.specs.WorldRun.{Moment, answered_in}
 use Rattle.exh_world.specs.Step.{Step}
-use Rattle.exh_event.specs.declared.event.Event.{Event}
-use Rattle.exh_event.specs.declared.event.Event.TheVariants.{Hop}
-use Rattle.exh_event.specs.declared.outcome.Outcome.{Outcome}
-use Rattle.exh_event.specs.declared.step_fault.StepFault.{StepFault}
+use Rattle.exh_walk.specs.declared.event.Event.{Event}
+use Rattle.exh_walk.specs.declared.event.Event.TheVariants.{Hop}
+use Rattle.exh_walk.specs.declared.outcome.Outcome.{Outcome}
+use Rattle.exh_walk.specs.declared.step_fault.StepFault.{StepFault}
 use Rattle.exh_world.proofs.BegunNear.{begun_near}
 use Rattle.exh_world.proofs.BoundedAnswers.{run_bounded}
 use Rattle.exh_world.proofs.CountedAnswers.{counted_of}

@@ -2,12 +2,12 @@ use Rattle.std.proofs.Common.{ℕ, List, Result, IfOk, OnOk, subst}
 use Rattle.std.proofs.lemmas.Bool.{and_from}
 use Rattle.sqlite_wal.specs.Files.{seen_image}
 use Rattle.sqlite_wal.specs.Reads.{AreClean}
-use Rattle.exh_commit.specs.FilePages.{LeavesAlone, StandsFor}
-use Rattle.exh_paged.specs.OwnLog.{HasStamp}
-use Rattle.exh_paged.specs.CallChange.{OfLegal}
-use Rattle.exh_paged.specs.CallsChange.{AreReplied}
-use Rattle.exh_paged.specs.declared.answered.Answered.{Answered}
-use Rattle.exh_paged.specs.declared.files_fault.FilesFault.{FilesFault}
+use Rattle.exh_map.specs.FilePages.{LeavesAlone, StandsFor}
+use Rattle.exhash.specs.OwnLog.{HasStamp}
+use Rattle.exhash.specs.CallChange.{OfLegal}
+use Rattle.exhash.specs.CallsChange.{AreReplied}
+use Rattle.exh_map.specs.declared.Answered.{Answered}
+use Rattle.exh_map.specs.declared.FilesFault.{FilesFault}
 use Rattle.exhash.proofs.CallsLemmas.{calls_leave, calls_leave_alone}
 use Rattle.exhash.proofs.FaultLemmas.{other_for, unchanged_for}
 use Rattle.exhash.proofs.calls_commit.commit_calls.Goals as goal

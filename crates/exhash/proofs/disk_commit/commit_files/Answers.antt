@@ -1,5 +1,7 @@
-use Rattle.std.proofs.Common.{Result, Ok, Err, OnOk}
+use Rattle.std.proofs.Common.{◌≡◌, Result, Ok, Err, OnOk, subst, sym}
+use Rattle.exh_map.specs.FilePages.{Leaves}
 use Rattle.exh_map.specs.declared.store_error.StoreError.{StoreError}
+use Rattle.exhash.specs.Commit.{IsOldOrCommitted}
 use Rattle.exhash.proofs.CommitLemmas.{leaves_same, leaves_untouched}
 use Rattle.exhash.proofs.disk_commit.commit_files.Goals as goal
 
@@ -18,7 +20,8 @@ returns-in-Ok-clause-crash g c whole has old stands = c.save_draft.ensures.crash
 
 pub returns-in-Err-clause-crash : goal.returns-in-Err-clause-crash
 returns-in-Err-clause-crash g c whole has old stands =
-    leaves_untouched g.D.Disk c.args.files.log c.args.files.db g.D.Truthful.is_truthful whole c.args.stamps old c.requires.log_synced c.requires.db_synced stands
+    subst (λ (pair : _ × _). Leaves g.D.Disk pair (IsOldOrCommitted g.D.Truthful.is_truthful whole c.args.stamps old)) (sym c.into_files.ensures)
+    (leaves_untouched g.D.Disk c.args.files.log c.args.files.db g.D.Truthful.is_truthful whole c.args.stamps old c.requires.log_synced c.requires.db_synced stands)
 
 pub returns-in-Ok-clause-opened : goal.returns-in-Ok-clause-opened
 returns-in-Ok-clause-opened g c = c.save_draft.ensures.opened
@@ -28,4 +31,5 @@ returns-in-Ok-clause-unchanged g c = c.save_draft.ensures.unchanged
 
 pub returns-in-Err-clause-unchanged : goal.returns-in-Err-clause-unchanged
 returns-in-Err-clause-unchanged g c sure old stands =
-    leaves_same g.D.Disk c.args.files.log c.args.files.db old c.requires.log_synced c.requires.db_synced stands
+    subst (λ (pair : _ × _). Leaves g.D.Disk pair (λ bytes. bytes ≡ old)) (sym c.into_files.ensures)
+    (leaves_same g.D.Disk c.args.files.log c.args.files.db old c.requires.log_synced c.requires.db_synced stands)

@@ -1,9 +1,9 @@
 use Rattle.std.proofs.Common.{Result, Ok, Err, IfOk}
 use Rattle.exh_page.specs.KeyMap.{KeyMap}
-use Rattle.exh_file.specs.Draft.{DraftState}
-use Rattle.exh_file.specs.FileChange.{HasMap}
-use Rattle.exh_file.specs.declared.placing.Stamps.{Stamps}
-use Rattle.exh_file.specs.Opened.{OpenedState}
+use Rattle.exh_map.specs.Draft.{DraftState}
+use Rattle.exh_map.specs.FileChange.{HasMap}
+use Rattle.exh_map.specs.declared.Stamps.{Stamps}
+use Rattle.exh_map.specs.Opened.{OpenedState}
 use Rattle.exhash.specs.Commit.{Drafts}
 use Rattle.exh_map.specs.FileMap.{KeepsMap}
 use Rattle.exh_map.specs.declared.store_error.StoreError.{StoreError}

@@ -1,10 +1,10 @@
 use Rattle.std.proofs.Common.{ℕ, List, Result, OnOk, subst}
 use Rattle.sqlite_wal.specs.Files.{seen_image}
 use Rattle.sqlite_wal.specs.Reads.{AreClean}
-use Rattle.exh_commit.specs.FilePages.{LeavesAlone, StandsFor}
-use Rattle.exh_paged.specs.OwnLog.{HasStamp}
-use Rattle.exh_paged.specs.Saving.{IsSavedOver}
-use Rattle.exh_paged.specs.declared.save_files_fault.SaveFilesFault.{SaveFilesFault}
+use Rattle.exh_map.specs.FilePages.{LeavesAlone, StandsFor}
+use Rattle.exhash.specs.OwnLog.{HasStamp}
+use Rattle.exhash.specs.Saving.{IsSavedOver}
+use Rattle.exh_map.specs.declared.SaveFilesFault.{SaveFilesFault}
 use Rattle.exhash.proofs.CommitLemmas.{leaves_committed, leaves_either, leaves_places}
 use Rattle.exhash.proofs.FaultLemmas.{unsaved_for}
 use Rattle.exhash.proofs.disk_commit.save_draft.Goals as goal

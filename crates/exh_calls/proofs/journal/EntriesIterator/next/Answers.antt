@@ -1,5 +1,5 @@
 use Rattle.std.proofs.Common.{add-one, arith}
-use Rattle.exh_prefix.specs.PrefixListLemmas.{first_left}
+use Rattle.exh_page.specs.PrefixListLemmas.{first_left}
 use Rattle.exh_calls.proofs.journal.EntriesIterator.next.Goals as goal
 
 pub returns-clause-steps : goal.returns-clause-steps

@@ -1,5 +1,5 @@
 use Rattle.std.proofs.Common.{◌≡◌}
-use Rattle.exh_format.specs.FileTests.{IsWhole, block_at}
+use Rattle.exh_edits.specs.FileTests.{IsWhole, block_at}
 use Rattle.exh_commit.proofs.KnownLemmas.{honest, known_holds}
 use Rattle.exh_commit.proofs.known.PagedFileBlocks.read.Goals as goal
 

@@ -1,5 +1,5 @@
 use Rattle.std.proofs.Common.{ℕ, List}
-use Rattle.exh_run.specs.LineLemmas.{next_all, next_line}
+use Rattle.exh_transfer.specs.LineLemmas.{next_all, next_line}
 use Rattle.exh_everyday.specs.Answers.{pair_line}
 use Rattle.exh_everyday.proofs.found.Found.lines.Goals as goal
 

@@ -1,6 +1,6 @@
 use Rattle.std.proofs.Common.{◌≡◌, subst}
 use Rattle.std.proofs.lemmas.Result.{IfErr-weaker}
-use Rattle.exh_file_faults.specs.declared.draft_fault.DraftFault.TheVariants.{Page}
+use Rattle.exh_file.specs.declared.draft_fault.DraftFault.TheVariants.{Page}
 use Rattle.exh_file.specs.Saved.{AreSound, HasCountedOf}
 use Rattle.exh_file.proofs.draft.Draft.grown.Goals as goal
 

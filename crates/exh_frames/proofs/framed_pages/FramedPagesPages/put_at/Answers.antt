@@ -1,7 +1,7 @@
 use Rattle.std.proofs.Common.{◌<◌, length, List, sym, subst}
 use Rattle.exh_page.specs.declared.page.Page.{Page}
 use Rattle.exh_page.specs.declared.record.Record.{Record}
-use Rattle.exh_images.specs.PageImages.{put_into}
+use Rattle.exh_frames.specs.PageImages.{put_into}
 use Rattle.exh_frames.specs.Decoded.{AreOf}
 use Rattle.exh_frames.specs.FramedStore.{FramedStore}
 use Rattle.exh_frames.proofs.Followed.{let_go, page_there}

@@ -1,6 +1,6 @@
 use Rattle.std.proofs.Common.{◌<◌, length, List, sym, subst}
 use Rattle.exh_page.specs.declared.page.Page.{Page}
-use Rattle.exh_images.specs.PageImages.{taken_out}
+use Rattle.exh_frames.specs.PageImages.{taken_out}
 use Rattle.exh_frames.specs.Decoded.{AreOf}
 use Rattle.exh_frames.specs.FramedStore.{FramedStore}
 use Rattle.exh_frames.proofs.Followed.{let_go, page_there}

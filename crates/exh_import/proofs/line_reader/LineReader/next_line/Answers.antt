@@ -2,9 +2,9 @@ use Rattle.std.proofs.Common.{◌≡◌, ℕ, ◌+◌, List, [], ◌∷◌, ◌+
 use Rattle.std.specs.Prelude.{Option, option_to_list}
 use Rattle.std.proofs.KnownBytes.{Consumes-trans}
 use Rattle.std.proofs.lemmas.List.{length_push}
-use Rattle.exh_csv.specs.declared.place.Place.{Place}
-use Rattle.exh_csv.specs.declared.place.Place.TheVariants.{Start}
-use Rattle.exh_csv.specs.Places.{place_behind}
+use Rattle.exh_pair_text.specs.declared.place.Place.{Place}
+use Rattle.exh_pair_text.specs.declared.place.Place.TheVariants.{Start}
+use Rattle.exh_pair_text.specs.Places.{place_behind}
 use Rattle.exh_pair_text.specs.Records.{IsOneLine, place_by}
 use Rattle.exh_import.specs.LineReader.{AreTaken, text_left}
 use Rattle.exh_import.proofs.Texts.{more_in_line, place_of_more}

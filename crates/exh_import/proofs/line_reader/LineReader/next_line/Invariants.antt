@@ -1,7 +1,7 @@
 use Rattle.std.proofs.Common.{◌≡◌, ◌≢◌, [], length}
 use Rattle.exh_stream.specs.Source.{SameReader}
-use Rattle.exh_csv.specs.declared.place.Place.TheVariants.{Start}
-use Rattle.exh_csv.specs.Places.{place_behind}
+use Rattle.exh_pair_text.specs.declared.place.Place.TheVariants.{Start}
+use Rattle.exh_pair_text.specs.Places.{place_behind}
 use Rattle.exh_pair_text.specs.Records.{IsOneLine, place_by}
 use Rattle.exh_import.specs.LineReader.{AreTaken, EndsRight, waiting}
 use Rattle.exh_import.proofs.line_reader.LineReader.next_line.Given as goal

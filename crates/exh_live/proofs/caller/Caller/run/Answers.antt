@@ -3,7 +3,7 @@ use Rattle.std.proofs.lemmas.Option.{slice_get_within}
 use Rattle.std.proofs.lemmas.Result.{IfOk-from_err}
 use Rattle.exh_calls.specs.declared.diary_entry.DiaryEntry.{DiaryEntry}
 use Rattle.exh_ward.specs.declared.ward_fault.WardFault.TheVariants.{Page as OutOfReach}
-use Rattle.exh_live_file.specs.Refused.{IsSomeWardsFault}
+use Rattle.exh_live.specs.Refused.{IsSomeWardsFault}
 use Rattle.exh_live.specs.StormCalls.{AreStormCalls, storm_call}
 use Rattle.exh_live.proofs.Calls.{one_call_more}
 use Rattle.exh_live.proofs.RoundsOn.{caller_refused, so_many}

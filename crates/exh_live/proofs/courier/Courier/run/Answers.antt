@@ -1,6 +1,6 @@
 use Rattle.std.proofs.Common.{ℕ, ◌+◌, ◌^◌, ◌<◌, ◌≤◌, refl, ap, ◌∙◌, subst, arith}
 use Rattle.std.proofs.lemmas.Result.{IfOk-from_err}
-use Rattle.exh_live_file.specs.Rounds.{AreFirstCursors}
+use Rattle.exh_live.specs.Rounds.{AreFirstCursors}
 use Rattle.exh_live.specs.StormRounds.{AreCourierRounds}
 use Rattle.exh_live.specs.declared.courier.TheConstants.{COURIER_CLIENT}
 use Rattle.exh_live.proofs.RoundsOn.{courier_round_more, so_many}

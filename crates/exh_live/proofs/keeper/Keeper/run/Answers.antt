@@ -1,6 +1,6 @@
 use Rattle.std.proofs.Common.{◌+◌, subst}
 use Rattle.exh_live.specs.declared.keeper.TheConstants.{KEEPER_CLIENT}
-use Rattle.exh_live_file.specs.Refused.{IsSomeWardsFault}
+use Rattle.exh_live.specs.Refused.{IsSomeWardsFault}
 use Rattle.exh_ward.specs.declared.ward_fault.WardFault.{WardFault}
 use Rattle.exh_live.proofs.RoundsOn.{keeper_refused, keeper_round_more}
 use Rattle.exh_live.proofs.keeper.Keeper.run.Goals as goal

@@ -1,6 +1,6 @@
 use Rattle.std.proofs.Common.{IfOk, OnErr, subst}
-use Rattle.exh_file.specs.FileChange.{ChangesOneMap}
-use Rattle.exh_file.specs.Opened.{OpenedState, in_file}
+use Rattle.exh_in_place.specs.FileChange.{ChangesOneMap}
+use Rattle.exh_in_place.specs.Opened.{OpenedState, in_file}
 use Rattle.exh_map.specs.FileMap.{KeepsMap}
 use Rattle.exh_map.proofs.file_map.FileMap.answer.Goals as goal
 

@@ -1,9 +1,9 @@
 use Rattle.std.proofs.Common.{IfOk, List, ◌++◌, length, drop, take, sym, ◌∙◌, subst}
 use Rattle.exh_keyer.specs.declared.any_keyer.AnyKeyer.{AnyKeyer}
 use Rattle.exh_ward.specs.WardState.{WardState}
-use Rattle.exh_file.specs.Opened.{AreWardsOf, OpenedState, in_file}
-use Rattle.exh_file.specs.Reopened.{IsReopened}
-use Rattle.exh_file.specs.Saved.{AreUnchanged}
+use Rattle.exh_in_place.specs.Opened.{AreWardsOf, OpenedState, in_file}
+use Rattle.exh_in_place.specs.Reopened.{IsReopened}
+use Rattle.exh_in_place.specs.Saved.{AreUnchanged}
 use Rattle.exh_map.specs.FileMap.{KeepsMap}
 use Rattle.exh_map.proofs.AgainLemmas.{keeps_again_if, wards_again_if}
 use Rattle.exh_map.proofs.LeftLemmas.{put_back, still_map, still_wards}

@@ -1,5 +1,5 @@
 use Rattle.std.proofs.Common.{OnErr, subst}
-use Rattle.exh_file.specs.Opened.{OpenedState, in_file}
+use Rattle.exh_in_place.specs.Opened.{OpenedState, in_file}
 use Rattle.exh_map.specs.FileMap.{KeepsMap}
 use Rattle.exh_map.proofs.file_map.FileMap.lows_grown.Goals as goal
 

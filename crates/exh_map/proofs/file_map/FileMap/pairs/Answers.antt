@@ -2,8 +2,8 @@ use Rattle.std.proofs.Common.{◌≡◌, ℕ, List, Result, Ok, Err, IfOk, OnErr
 use Rattle.std.specs.FinMap.{from_entries}
 use Rattle.exh_page.specs.KeyMap.{KeyMap}
 use Rattle.exh_ward.specs.declared.ward_fault.WardFault.{WardFault}
-use Rattle.exh_file.specs.FileChange.{HasMap}
-use Rattle.exh_file.specs.Opened.{AreWardsOf, OpenedState, in_file}
+use Rattle.exh_in_place.specs.FileChange.{HasMap}
+use Rattle.exh_in_place.specs.Opened.{AreWardsOf, OpenedState, in_file}
 use Rattle.exh_map.specs.FileMap.{KeepsMap}
 use Rattle.exh_map.specs.Pairs.{pairs_in}
 use Rattle.exh_map.proofs.WholeMap.{whole_is}

@@ -1,6 +1,6 @@
 use Rattle.std.proofs.Common.{ℕ, List}
 use Rattle.exh_cells.specs.PlacedFile.{PlacedFile}
-use Rattle.exh_direct.specs.DirectLaws.{IsOtherFault}
+use Rattle.exh_change.specs.DirectLaws.{IsOtherFault}
 use Rattle.exh_paged.specs.CallChange.{IsMade}
 use Rattle.exh_paged.proofs.CallLemmas.{made_known, refused_known}
 use Rattle.exh_paged.proofs.operated.OperatedChanger.change.Goals as goal

@@ -1,6 +1,6 @@
 use Rattle.std.proofs.Common.{◌≡◌, ◌∙◌, sym, subst, None, Some, Option}
 use Rattle.std.proofs.lemmas.Bool.{false≢true}
-use Rattle.exh_join.specs.Greater.{IsUpTo}
+use Rattle.exh_notice.specs.Greater.{IsUpTo}
 use Rattle.exh_notice.specs.declared.entry.Entry.{Entry}
 use Rattle.exh_notice.specs.Entry.{entry_cmp}
 use Rattle.exh_table.specs.TableOrder.{IsOptionUpTo}

@@ -3,7 +3,7 @@ use Rattle.exh_legal.specs.LegalLaws.{IsBelow}
 use Rattle.exh_prefix.specs.Prefix.{Begins}
 use Rattle.exh_calls.specs.Call.{key_of}
 use Rattle.exh_ward.specs.WardState.{own_prefix}
-use Rattle.exh_route.specs.RouteLaws.{CanGoOn, EndsAtHome}
+use Rattle.exh_walk.specs.RouteLaws.{CanGoOn, EndsAtHome}
 use Rattle.exh_walk.specs.CallerWalk.{IsWalked}
 use Rattle.exh_walk.specs.WardStep.{IsWardStep}
 use Rattle.exh_walk.proofs.Journals.{ward_walked}

@@ -5,7 +5,7 @@ use Rattle.std.proofs.lemmas.List.{length-set}
 use Rattle.std.proofs.lemmas.Option.{slice_get_within}
 use Rattle.std.proofs.lemmas.Result.{IfOk-from_err}
 use Rattle.exh_notice.specs.declared.notice.Notice.{Notice}
-use Rattle.exh_table.specs.Table.{TableMap, entry_number}
+use Rattle.exh_legal.specs.Table.{TableMap, entry_number}
 use Rattle.exh_legal.specs.ChangeNumbers.{index_of, next_notice}
 use Rattle.exh_legal.specs.Pages.{IsAt}
 use Rattle.exh_ward.specs.Told.{FitChange, page_changed, pages_changed, twin_changed}

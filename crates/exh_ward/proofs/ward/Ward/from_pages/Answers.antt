@@ -2,7 +2,7 @@ use Rattle.std.proofs.Common.{ap, ◌∙◌, ◌≡◌, ◌<◌, ℕ, List, [], 
 use Rattle.std.proofs.lemmas.Result.{IfOk-from_err}
 use Rattle.exh_prefix.specs.Leading.{ward_prefix}
 use Rattle.exh_notice.specs.declared.notice.Notice.{Notice}
-use Rattle.exh_table.specs.Table.{TableMap}
+use Rattle.exh_legal.specs.Table.{TableMap}
 use Rattle.exh_page.specs.declared.page.Page.{Page as PageType}
 use Rattle.exh_page.specs.KeyMap.{KeyMap}
 use Rattle.exh_legal.specs.Pages.{map_of}

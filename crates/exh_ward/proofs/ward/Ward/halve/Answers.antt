@@ -9,7 +9,7 @@ use Rattle.exh_prefix.specs.PrefixListLemmas.{one_there}
 use Rattle.exh_notice.specs.declared.entry.Entry.{Entry}
 use Rattle.exh_notice.specs.declared.entry.Kind.TheVariants.{Split}
 use Rattle.exh_notice.specs.declared.notice.Notice.{Notice}
-use Rattle.exh_table.specs.Table.{TableMap, table_with, entry_number}
+use Rattle.exh_legal.specs.Table.{TableMap, table_with, entry_number}
 use Rattle.exh_page.specs.declared.page.Page.{Page}
 use Rattle.exh_page.specs.declared.page.Page.TheVariants.{Live, Forward}
 use Rattle.exh_page.specs.Halves.{left_half, right_half}

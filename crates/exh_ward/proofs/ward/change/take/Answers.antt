@@ -1,6 +1,6 @@
 use Rattle.std.proofs.Common.{◌≡◌, ℕ, ◌+◌, ◌-◌, ◌^◌, ◌<◌, ◌≤◌, Option, None, Some, sym, ap, ◌∙◌, arith}
 use Rattle.exh_notice.specs.declared.entry.Entry.{Entry}
-use Rattle.exh_table.specs.Table.{entry_number}
+use Rattle.exh_legal.specs.Table.{entry_number}
 use Rattle.exh_ward.proofs.ward.change.take.Goals as goal
 
 number_here : {found stood : Option Entry} {entry : Entry} → stood ≡ found → stood ≡ Some entry → entry_number found ≡ entry.number

@@ -11,7 +11,7 @@ use Rattle.exh_world.specs.WorldKept.{IsKeptWorld}
 use Rattle.exh_world.specs.Sound.{IsSoundWorld}
 use Rattle.exh_world.specs.Step.{HasBegun, IsRefused, ReachesInto, Step}
 use Rattle.exh_world.specs.World.{WorldState, changes_in, numbered}
-use Rattle.exh_event.specs.declared.event.Event.TheVariants.{Begin}
+use Rattle.exh_walk.specs.declared.event.Event.TheVariants.{Begin}
 use Rattle.exh_world.proofs.BeginSteps.{none_there, some_there, with_requests, at_within, found_at, noticed_within, had_few, changes_are, no_page_missing, same_ward, begun, begun_kept}
 use Rattle.exh_world.proofs.InsideWorld.{with_ward, within_len, world_of}
 use Rattle.exh_world.proofs.WardChanges as changed

@@ -6,8 +6,8 @@ use Rattle.exh_world.specs.WorldKept.{IsKeptWorld}
 use Rattle.exh_world.specs.Sound.{IsSoundWorld}
 use Rattle.exh_world.specs.Step.{HasJoined}
 use Rattle.exh_world.specs.World.{WorldState, numbered}
-use Rattle.exh_event.specs.declared.event.Event.TheVariants.{Combine}
-use Rattle.exh_event.specs.declared.outcome.Outcome.TheVariants.{Joined}
+use Rattle.exh_walk.specs.declared.event.Event.TheVariants.{Combine}
+use Rattle.exh_walk.specs.declared.outcome.Outcome.TheVariants.{Joined}
 use Rattle.exh_world.proofs.CopySteps.{kept_after, is_there, placed_there, refused_same, has_joined}
 use Rattle.exh_world.proofs.InsideWorld.{with_copies}
 use Rattle.exh_world.proofs.world.World.combine.Given as Given

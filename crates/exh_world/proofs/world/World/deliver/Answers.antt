@@ -8,8 +8,8 @@ use Rattle.exh_world.specs.WorldKept.{IsKeptWorld, HaveIndexesInTurn}
 use Rattle.exh_world.specs.Sound.{IsSoundWorld}
 use Rattle.exh_world.specs.Step.{HasTaken}
 use Rattle.exh_world.specs.World.{WorldState, numbered}
-use Rattle.exh_event.specs.declared.event.Event.TheVariants.{Deliver}
-use Rattle.exh_event.specs.declared.outcome.Outcome.TheVariants.{Taken}
+use Rattle.exh_walk.specs.declared.event.Event.TheVariants.{Deliver}
+use Rattle.exh_walk.specs.declared.outcome.Outcome.TheVariants.{Taken}
 use Rattle.exh_world.proofs.CopySteps.{all_above, kept_after, is_there, placed_there, has_taken, refused_same, indexes_in_turn, no_notice}
 use Rattle.exh_world.proofs.InsideWorld.{with_copies}
 use Rattle.exh_world.proofs.world.World.deliver.Given as Given

@@ -5,10 +5,10 @@ use Rattle.exh_world.specs.Sound.{IsSoundWorld}
 use Rattle.exh_world.specs.Step.{HasEffect, IsRefused, ReachesInto, Step}
 use Rattle.exh_world.specs.InFlight.{request_named}
 use Rattle.exh_world.specs.World.{WorldState}
-use Rattle.exh_event.specs.declared.event.Event.TheVariants.{Hop as HopOn}
+use Rattle.exh_walk.specs.declared.event.Event.TheVariants.{Hop as HopOn}
 use Rattle.exh_world.proofs.HopSteps.{at_within, reaches, hashed, covered, had_few, changed_since, bound_told, bound_small, noticed_within, room, hopped_to, hopped_kept}
-use Rattle.exh_event.specs.declared.outcome.Outcome.{Outcome}
-use Rattle.exh_event.specs.EventProgress.{Progress, hop_outcome, progress_with}
+use Rattle.exh_walk.specs.declared.outcome.Outcome.{Outcome}
+use Rattle.exh_walk.specs.EventProgress.{Progress, hop_outcome, progress_with}
 use Rattle.exh_world.specs.RequestProgress.{progress_of}
 use Rattle.exh_world.proofs.InsideWorld.{with_ward, within_len, world_of}
 use Rattle.exh_world.proofs.world.World.hop.Given.{Over}

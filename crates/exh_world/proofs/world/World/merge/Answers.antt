@@ -5,8 +5,8 @@ use Rattle.exh_ward.specs.MergeStep.{IsMergeStep}
 use Rattle.exh_ward.specs.WardFault.{MergeRefused}
 use Rattle.exh_world.specs.Step.{IsRefused, ReachesInto, Step}
 use Rattle.exh_world.specs.World.{WorldState}
-use Rattle.exh_event.specs.declared.event.Event.TheVariants.{Merge}
-use Rattle.exh_event.specs.declared.outcome.Outcome.TheVariants.{Changed}
+use Rattle.exh_walk.specs.declared.event.Event.TheVariants.{Merge}
+use Rattle.exh_walk.specs.declared.outcome.Outcome.TheVariants.{Changed}
 use Rattle.exh_world.proofs.WardChanges.{after, world_changed, world_kept, same_kept, leaves_refused, of_refusal, change_refused}
 use Rattle.exh_world.proofs.world.World.merge.Goals as goal
 

@@ -1,7 +1,7 @@
 use Rattle.std.proofs.Common.{List, [], sym, ◌∙◌, subst, arith}
 use Rattle.std.proofs.lemmas.List.{take_all}
 use Rattle.std.proofs.lemmas.Result.{IfOk-from_err}
-use Rattle.exh_event.specs.declared.turn.Turn.{Turn}
+use Rattle.exh_walk.specs.declared.turn.Turn.{Turn}
 use Rattle.exh_world.specs.Sound.{IsSoundWorld}
 use Rattle.exh_world.proofs.Runs.{HasRun, none_run, one_more, bounded_of, current_of, headline_of, moves_of, others_of}
 use Rattle.exh_world.proofs.world.World.run.Goals as goal

@@ -5,8 +5,8 @@ use Rattle.exh_world.specs.WorldKept.{IsKeptWorld}
 use Rattle.exh_world.specs.Sound.{IsSoundWorld}
 use Rattle.exh_world.specs.Step.{HasSent}
 use Rattle.exh_world.specs.World.{WorldState, numbered}
-use Rattle.exh_event.specs.declared.event.Event.TheVariants.{Send}
-use Rattle.exh_event.specs.declared.outcome.Outcome.TheVariants.{Sent}
+use Rattle.exh_walk.specs.declared.event.Event.TheVariants.{Send}
+use Rattle.exh_walk.specs.declared.outcome.Outcome.TheVariants.{Sent}
 use Rattle.exh_world.proofs.CopySteps.{kept_after, placed_there, refused_same, has_sent}
 use Rattle.exh_world.proofs.InsideWorld.{with_copies}
 use Rattle.exh_world.proofs.world.World.send.Given as Given

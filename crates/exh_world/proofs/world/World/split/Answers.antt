@@ -6,8 +6,8 @@ use Rattle.exh_ward.specs.WardFault.{SplitRefused}
 use Rattle.exh_ward.specs.WardState.{WardState}
 use Rattle.exh_world.specs.Step.{IsRefused, ReachesInto, Step}
 use Rattle.exh_world.specs.World.{WorldState}
-use Rattle.exh_event.specs.declared.event.Event.TheVariants.{Split}
-use Rattle.exh_event.specs.declared.outcome.Outcome.TheVariants.{Changed}
+use Rattle.exh_walk.specs.declared.event.Event.TheVariants.{Split}
+use Rattle.exh_walk.specs.declared.outcome.Outcome.TheVariants.{Changed}
 use Rattle.exh_world.proofs.WardChanges.{after, world_changed, world_kept, same_kept, leaves_refused, of_refusal, change_refused}
 use Rattle.exh_world.proofs.world.World.split.Goals as goal
 

@@ -1,6 +1,6 @@
 use Rattle.std.proofs.Common.{ℕ, List, refl, subst}
 use Rattle.exh_map.specs.FileMap.{IsPut}
-use Rattle.exh_pending.proofs.StoreLemmas.{put_noted, stays}
+use Rattle.exhash.proofs.PendingStoreLemmas.{put_noted, stays}
 use Rattle.exhash.proofs.store.Store.put.Goals as goal
 
 pub returns-clause-put : goal.returns-clause-put

@@ -1,6 +1,6 @@
 use Rattle.std.proofs.Common.{ℕ, List, refl, subst}
 use Rattle.exh_map.specs.FileMap.{IsPutNew}
-use Rattle.exh_pending.proofs.StoreLemmas.{put_new_noted, stays}
+use Rattle.exhash.proofs.PendingStoreLemmas.{put_new_noted, stays}
 use Rattle.exhash.proofs.store.Store.put_new.Goals as goal
 
 pub returns-clause-put : goal.returns-clause-put

@@ -1,6 +1,6 @@
 use Rattle.std.proofs.Common.{ℕ, List, refl, subst}
 use Rattle.exh_map.specs.FileMap.{IsRemoved}
-use Rattle.exh_pending.proofs.StoreLemmas.{removed_noted, stays}
+use Rattle.exhash.proofs.PendingStoreLemmas.{removed_noted, stays}
 use Rattle.exhash.proofs.store.Store.remove.Goals as goal
 
 pub returns-clause-removed : goal.returns-clause-removed

@@ -1,6 +1,6 @@
 use Rattle.std.proofs.Common.{ℕ, List, refl, subst}
 use Rattle.exh_map.specs.FileMap.{IsReplaced}
-use Rattle.exh_pending.proofs.StoreLemmas.{replaced_noted, stays}
+use Rattle.exhash.proofs.PendingStoreLemmas.{replaced_noted, stays}
 use Rattle.exhash.proofs.store.Store.replace.Goals as goal
 
 pub returns-clause-replaced : goal.returns-clause-replaced

@@ -1,6 +1,6 @@
 use Rattle.std.proofs.Common.{ℕ, List, refl, subst}
 use Rattle.exh_map.specs.FileMap.{IsSwap}
-use Rattle.exh_pending.proofs.StoreLemmas.{stays, swap_noted}
+use Rattle.exhash.proofs.PendingStoreLemmas.{stays, swap_noted}
 use Rattle.exhash.proofs.store.Store.swap.Goals as goal
 
 pub returns-clause-swapped : goal.returns-clause-swapped

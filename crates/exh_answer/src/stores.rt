@@ -1,7 +1,0 @@
-//! The wards of the program's page files, over its stores.
-
-use exh_file::Opened;
-use exh_frames::FileStore;
-
-/// The wards of a page file, over the program's stores.
-pub type FileWards = Opened<FileStore>;

@@ -1,2 +1,0 @@
--- blocks that are copied one after the other
-pub mod CopyLemmas

@@ -1,4 +1,0 @@
-pub mod Index
-pub mod Overlay
-pub mod Batch
-pub mod Steps

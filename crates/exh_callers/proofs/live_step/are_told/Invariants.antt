@@ -1,6 +1,0 @@
-use Rattle.std.specs.Prelude.{◌≡◌}
-use Rattle.exh_callers.proofs.live_step.are_told.Given as goal
-
--- the caller looks at the same copy
-abbrev pub invariant-all : goal.invariant-all
-invariant-all g l = l.caller.copy.name ≡ l.fn.caller.copy.name

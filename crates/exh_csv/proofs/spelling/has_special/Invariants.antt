@@ -1,7 +1,0 @@
-use Rattle.std.proofs.Common.{◌≡◌, take}
-use Rattle.std.specs.List.{list_any}
-use Rattle.exh_csv.specs.Rows.{is_special}
-use Rattle.exh_csv.proofs.spelling.has_special.Given as goal
-
-abbrev pub invariant-loop-byte : goal.invariant-loop-byte
-invariant-loop-byte l = record { known : l.found ≡ list_any is_special (take l.byte-index l.bytes) }

@@ -1,2 +1,0 @@
--- for the folder of a path
-pub mod Slashes

@@ -1,0 +1,157 @@
+//! The three-pair file of FORMATS.md in memory, whose header was written by hand from its tables, beside which a log is.
+ghost use Rattle.std.specs.Prelude.{⊤, IsTrue, IfOk};
+ghost use Rattle.sqlite_disk.specs.Disk.{Only};
+
+use exh_codec::{BLOCK_LEN, seal};
+use exh_commit::{BlockEdit, Blocks, Changer, DirectFault, SeenFiles, see_log};
+use exh_in_place::{Expected, FilesFault, change_files, recover_files};
+use sqlite_disk::{Disk, Files, Memory};
+use sqlite_pager::Options;
+use std::alloc::Global;
+use std::test::Fail;
+
+const STAMP: u8 = 5;
+
+fn options() -> Options {
+    Options {
+        cache_pages: 64,
+        spill_pages: 2000,
+        checkpoint_frames: 1000,
+        seed: 7,
+    }
+}
+
+// The header of cap 2 under keyer plain with two pages, with these stamps.
+fn header(stamp: u8, before: u8) -> [u8; BLOCK_LEN] {
+    let mut block = [0; BLOCK_LEN];
+    block[..13].copy_from_slice(&[
+        0x45, 0x58, 0x48, 0x41, 0x53, 0x48, 0x50, 0x46, 0, 3, 2, 0, 2,
+    ]);
+    block[23] = 2;
+    block[91] = stamp;
+    block[99] = before;
+    seal(&mut block);
+    block
+}
+
+// A file and its log, of which all is on the disk, and at whose log was looked.
+fn durable<D: Disk + Drop>(alloc: Global, mut files: Files<D>) -> Result<SeenFiles<D>, Fail>
+    ensures log { IfOk result (λ it. IsTrue (D.Disk.is_usable it.log)) }
+    ensures db { IfOk result (λ it. IsTrue (D.Disk.is_usable it.db)) }
+    ensures log_synced { IfOk result (λ it. Only (D.Disk.seen it.log) (D.Disk.may_leave it.log)) }
+    ensures db_synced { IfOk result (λ it. Only (D.Disk.seen it.db) (D.Disk.may_leave it.db)) }
+{
+    if !files.may_be_used() {
+        return Err("files that may be used".into());
+    }
+    files.log.sync()?;
+    files.db.sync()?;
+    match see_log(alloc, files) {
+        Ok(files) => Ok(files),
+        Err(_) => Err("a log of a page file".into()),
+    }
+}
+
+// A file of this header and a block behind it, and an empty log.
+fn file_of(alloc: Global, header: &[u8; BLOCK_LEN]) -> Result<(Memory, Memory), Fail> {
+    let mut file = Memory::new(alloc);
+    file.write_at(0, header)?;
+    file.write_at(BLOCK_LEN, &[1; BLOCK_LEN])?;
+    Ok((Memory::new(alloc), file))
+}
+
+// What recovering gives.
+fn recovered(
+    alloc: Global,
+    header: &[u8; BLOCK_LEN],
+    expected: Expected,
+) -> Result<Result<(), FilesFault>, Fail> {
+    let (log, db) = file_of(alloc, header)?;
+    let files = durable(alloc, Files { log, db })?;
+    let (found, _) = recover_files(alloc, files, options(), expected);
+    Ok(found)
+}
+
+/// Makes of a file's second block one of nines.
+struct Nines;
+
+impl Changer for Nines {
+    type Answer = u8;
+
+    ghost allows = { λ _ _ _ _. ⊤ };
+
+    ghost refuses = { λ _ _ _. ⊤ };
+
+    fn change<B: Blocks>(
+        &self,
+        alloc: Global,
+        blocks: &mut B,
+    ) -> Result<(u8, Vec<BlockEdit>), DirectFault> {
+        let mut edits = Vec::new(alloc);
+        if edits
+            .push(BlockEdit {
+                place: 1,
+                block: [9; BLOCK_LEN],
+            })
+            .is_err()
+        {
+            return Err(DirectFault::Memory);
+        }
+        Ok((7, edits))
+    }
+}
+
+// The first byte behind the header after a change, and whether it was made.
+fn changed(
+    alloc: Global,
+    header: &[u8; BLOCK_LEN],
+    expected: Expected,
+) -> Result<(bool, u8), Fail> {
+    let (log, db) = file_of(alloc, header)?;
+    let files = durable(alloc, Files { log, db })?;
+    let (made, files) = change_files(alloc, files, options(), expected, &Nines);
+    let Some(byte) = files.db.bytes().get(BLOCK_LEN) else {
+        return Err("two blocks".into());
+    };
+    Ok((matches!(made, Ok(7)), *byte))
+}
+
+#[test]
+fn another_files_log_is_refused(rt: HostRuntime) -> Result<(), Fail> {
+    let block = header(STAMP, 4);
+    assert!(rt; recovered(rt.alloc(), &block, Expected::Own(Some(5)))?.is_ok());
+    assert!(rt; recovered(rt.alloc(), &block, Expected::Own(Some(4)))?.is_ok());
+    assert!(rt; recovered(rt.alloc(), &block, Expected::Own(None))?.is_ok());
+    assert!(rt;
+        matches!(
+            recovered(rt.alloc(), &block, Expected::Own(Some(6)))?,
+            Err(FilesFault::OthersLog)
+        )
+    );
+    assert!(rt;
+        matches!(
+            recovered(rt.alloc(), &[0; BLOCK_LEN], Expected::Own(Some(5)))?,
+            Err(FilesFault::Header(_))
+        )
+    );
+    Ok(())
+}
+
+#[test]
+fn just_the_own_file_is_changed(rt: HostRuntime) -> Result<(), Fail> {
+    let block = header(STAMP, 4);
+    assert_eq!(rt;
+        changed(rt.alloc(), &block, Expected::Own(Some(5)))?,
+        (true, 9)
+    );
+    assert_eq!(rt;
+        changed(rt.alloc(), &block, Expected::Own(Some(6)))?,
+        (false, 1)
+    );
+    assert_eq!(rt; changed(rt.alloc(), &block, Expected::Stamp(5))?, (true, 9));
+    assert_eq!(rt;
+        changed(rt.alloc(), &block, Expected::Stamp(4))?,
+        (false, 1)
+    );
+    Ok(())
+}

@@ -1,2 +1,0 @@
-pub mod EventProgress
-pub mod StepFault

@@ -1,3 +1,0 @@
-pub mod OpenFault
-pub mod SaveFault
-pub mod DraftFault

@@ -1,0 +1,19 @@
+use Rattle.std.proofs.Common.{◌≡◌, ◌<◌, length, set, slice_get, Some, sym, ap, ◌∙◌, subst}
+use Rattle.exh_page.specs.declared.page.Page.{Page}
+use Rattle.exh_page.specs.declared.record.Record.{Record}
+use Rattle.exh_frames.specs.PageImages.{ImageList, page_in, pages_in, put_into}
+use Rattle.exh_frames.proofs.Kept.{pages_turned, read_at}
+use Rattle.exh_frames.proofs.images.Images.put.Goals as goal
+
+pub returns-clause-pages : goal.returns-clause-pages
+returns-clause-pages g c page there =
+    let pseudo = g.K.Keyer.pseudokey_of c.self.inside.keyer in
+    let images = c.self.inside.images.items in
+    let image = c.index_mut-image.result.now in
+    let number = c.args.number in
+    let item : Record = record { pseudokey = c.args.pseudokey; key = c.args.key.now; value = c.args.value.now } in
+    let within = subst (λ (l : ImageList g.row.K.Denot). number < length l.pages) (sym c.self.view_is) c.requires.there in
+    let is = subst (λ (l : ImageList g.row.K.Denot). slice_get l.pages number ≡ Some page) (sym c.self.view_is) there in
+    let read = read_at pseudo images number image page within c.index_mut-image.ensures.value c.self.invariant is in
+    pages_turned pseudo images number c.put.new.self (put_into item (page_in pseudo image)) c.put.ensures
+    ∙ ap (λ (p : Page). set (pages_in pseudo images) number (put_into item p)) read ∙ ap (λ (l : ImageList g.row.K.Denot). set l.pages number (put_into item page)) c.self.view_is

@@ -1,4 +1,0 @@
-pub mod InPlace
-pub mod LentItem
-pub mod PageImages
-pub mod Runs

@@ -1,7 +1,0 @@
-use Rattle.std.proofs.Common.{take}
-use Rattle.exh_live_file.specs.Rounds.{TakesAll}
-use Rattle.exh_live_file.proofs.courier.take_all.Given as goal
-
--- the notices so far are taken
-abbrev pub invariant-loop-notice : goal.invariant-loop-notice
-invariant-loop-notice g l = TakesAll l.fn.copy (take l.notice-index l.notices) l.copy

@@ -1,2 +1,0 @@
--- calls that are pending
-pub mod Pending

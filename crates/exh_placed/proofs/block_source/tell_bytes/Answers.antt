@@ -1,5 +1,0 @@
-use Rattle.exh_placed.proofs.Elements.{all_bytes}
-use Rattle.exh_placed.proofs.block_source.tell_bytes.Goals as goal
-
-pub returns : goal.returns
-returns c = (c.told-block, all_bytes c.args.block.now c.fits-block)

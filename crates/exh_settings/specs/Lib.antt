@@ -1,4 +1,0 @@
-pub mod Keyers
-pub mod FileSettings
-pub mod Config
-pub mod StormConfig

@@ -1,7 +1,0 @@
-use Rattle.exh_steps.proofs.HomeAnswers.{AnswerLaws, home_answers}
-use Rattle.exh_steps.proofs.laws.answers_keep_legal.Goals as goal
-
-pub returns : goal.returns
-returns c =
-    let laws : AnswerLaws = record { begin = c.fitting_tables_begin_wards.ensures; answer = c.answers_keep_legal.ensures } in
-    home_answers laws

@@ -1,2 +1,0 @@
-pub mod PlacedSteps
-pub mod StepLaws

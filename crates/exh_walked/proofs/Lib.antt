@@ -1,9 +1,0 @@
-pub mod Counts
-pub mod Blocks
-pub mod Few
-pub mod PlacedBlocks
-pub mod WardNumbers
-pub mod LegalWards
-pub mod PlacedWalks
-pub mod InPlaced
-pub mod AnyVersion

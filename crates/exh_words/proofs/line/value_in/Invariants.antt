@@ -1,8 +1,0 @@
-use Rattle.std.proofs.Common.{◌≡◌, drop, map}
-use Rattle.exh_words.specs.Line.{used_option}
-use Rattle.exh_words.specs.Uses.{value_given}
-use Rattle.exh_words.proofs.line.value_in.Given as goal
-
--- it is found among those that are left
-abbrev pub invariant-loop-one : goal.invariant-loop-one
-invariant-loop-one l = value_given l.option (map used_option l.uses) ≡ value_given l.option (map used_option (drop l.one-index l.uses))

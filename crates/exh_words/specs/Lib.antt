@@ -1,5 +1,0 @@
--- commands and options, the words behind a command, and what is wrong with them
-pub mod Causes
-pub mod Commands
-pub mod Line
-pub mod Uses
