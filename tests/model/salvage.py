@@ -1,7 +1,7 @@
 """What `salvage` prints of the bytes of a file, whatever they are, and what it says of them.
 
-Blocks stand at multiples of their length from the first byte on. A block is lost where its digest is wrong or the bytes
-end amid it; one of another kind than a live page has no pairs.
+Blocks stand at multiples of their length from the first byte on. A block is lost where its digest is wrong, the bytes
+end amid it, or it can't be read; one of another kind than a live page has no pairs.
 """
 
 from typing import NamedTuple
@@ -76,10 +76,11 @@ def is_lost(block):
     return len(block) < BLOCK or BlockReader(block, CURRENT).is_torn(block)
 
 
-def salvage_of(content):
-    """What is saved of some bytes."""
+def salvage_of(content, unread=()):
+    """What is saved of some bytes, of which the blocks at some places can't be read."""
     blocks = [content[at : at + BLOCK] for at in range(0, len(content), BLOCK)]
-    pages = [None if is_lost(it) else page_in(it) for it in blocks]
+    lost = [at for at, it in enumerate(blocks) if at in unread or is_lost(it)]
+    pages = [None if at in lost else page_in(it) for at, it in enumerate(blocks)]
     pairs = [Pair(at, *it) for at, page in enumerate(pages) if isinstance(page, Live) for it in page.records]
     live = sum(isinstance(it, Live) for it in pages)
-    return Salvage(pairs, len(blocks), live, [at for at, it in enumerate(blocks) if is_lost(it)])
+    return Salvage(pairs, len(blocks), live, lost)
