@@ -1,5 +1,5 @@
 -- Of bytes whose blocks are pages and others with their digests just the pages' pairs are saved, and no block is lost.
-use Rattle.std.proofs.Common.{◌≡◌, ℕ, zero, suc, ◌+◌, ◌<◌, ◌≤◌, inl, inr, List, [], ◌∷◌, ◌++◌, Option, Some, None, flat_map, get_or, length, map, take, refl, sym, ap, ◌∙◌, subst, arith, append-nil}
+use Rattle.std.proofs.Common.{◌≡◌, ℕ, zero, suc, ◌<◌, ◌≤◌, inl, inr, Bool, List, [], ◌∷◌, ◌++◌, Option, Some, None, flat_map, get_or, length, map, take, refl, sym, ap, ◌∙◌, subst, arith, append-nil}
 use Rattle.std.proofs.lemmas.List.{map-append}
 use Rattle.std.proofs.lemmas.List.Concat.{flat_map-append}
 use Rattle.std.proofs.Math.Seq.{take-suc, take-length}
@@ -55,7 +55,7 @@ module _ (sealed : ImagesAreSealed) (read : BlocksAreRead) where
   grown None block place before after is (inr (inl (right, none, same))) = stays None before after same refl
   grown None block place before after is (inr (inr (wrong, noted))) = absurd (wrong is.0)
 
-  module _ (bytes : List ℕ) (pages : List (Option Page)) (stand : (place : ℕ) → place < length pages → Stands (get_or pages place None) (block_at place bytes)) where
+  module _ (failed : ℕ → Bool) (bytes : List ℕ) (pages : List (Option Page)) (stand : (place : ℕ) → place < length pages → Stands (get_or pages place None) (block_at place bytes)) where
     behind : (count : ℕ) (before after : Salvage) → count < length pages → Grows (get_or pages count None) before after → IsWhole (take count pages) before → IsWhole (take (suc count) pages) after
     behind count before after less grows was = record {
       pairs = grows.pairs ∙ ap (λ (front : List Pair). front ++ pairs_within (get_or pages count None)) was.pairs
@@ -65,13 +65,13 @@ module _ (sealed : ImagesAreSealed) (read : BlocksAreRead) where
       lost = grows.lost ∙ was.lost;
     }
 
-    up_to : (count : ℕ) → count ≤ length pages → (salvage : Salvage) → IsSalvage bytes count salvage → salvage.unread ≡ 0 → IsWhole (take count pages) salvage
+    up_to : (count : ℕ) → count ≤ length pages → (salvage : Salvage) → IsSalvage failed bytes count salvage → salvage.unread ≡ 0 → IsWhole (take count pages) salvage
     up_to zero within salvage is none = record { pairs = ap (map both_of) is.pairs; lost = is.lost }
     up_to (suc count) within salvage (before, so_far, inl (whole, saved)) none =
         let less : count < length pages = omega (arith, within) in
         let grows : Grows (get_or pages count None) before salvage = grown (get_or pages count None) (block_at count bytes) count before salvage (stand count less) saved in
         behind count before salvage less grows (up_to count (omega (arith, within)) before so_far (sym grows.unread ∙ none))
-    up_to (suc count) within salvage (before, so_far, inr noted) none = absurd (omega (arith, noted.unread, none))
+    up_to (suc count) within salvage (before, so_far, inr (lost, noted)) none = absurd (omega (arith, noted.unread, none))
 
-    pub whole_file : (salvage : Salvage) → IsSalvage bytes (length pages) salvage → salvage.unread ≡ 0 → IsWhole pages salvage
+    pub whole_file : (salvage : Salvage) → IsSalvage failed bytes (length pages) salvage → salvage.unread ≡ 0 → IsWhole pages salvage
     whole_file salvage is none = subst (λ (front : List (Option Page)). IsWhole front salvage) (take-length pages) (up_to (length pages) (omega arith) salvage is none)

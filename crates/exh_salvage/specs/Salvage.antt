@@ -1,5 +1,5 @@
 -- What is saved of the blocks of some bytes, in the order of their places.
-use Rattle.std.specs.Prelude.{◌≡◌, ◌⊎◌, ℕ, zero, suc, ◌+◌, List, [], ◌∷◌, ◌++◌, Option, take, IfSome}
+use Rattle.std.specs.Prelude.{◌≡◌, ◌⊎◌, ℕ, zero, suc, ◌+◌, Bool, List, [], ◌∷◌, ◌++◌, Option, take, IfSome, IsTrue}
 use Rattle.exh_page.specs.declared.page.Page.{Page}
 use Rattle.exh_codec.specs.Block.{IsSealed}
 use Rattle.exh_salvage.specs.Blocks.{IsWhole, block_at}
@@ -45,20 +45,20 @@ abbrev pub IsSavedBlock : List ℕ → ℕ → Salvage → Salvage → Type 0
 IsSavedBlock block place before after = ((page : Page) × IsPageBlock block page × IsWithPage page place before after)
     ⊎ ((IsSealed block × IsNoPage block × (after ≡ before)) ⊎ ((IsSealed block → ⊥) × IsNoted place before after))
 
--- the one at a place of some bytes
-abbrev pub IsSavedAt : List ℕ → ℕ → Salvage → Salvage → Type 0
-IsSavedAt bytes place before after = (IsWhole place bytes × IsSavedBlock (block_at place bytes) place before after) ⊎ IsNotedUnread place before after
+-- the one at a place of some bytes, which was read, or of which a read has failed
+abbrev pub IsSavedAt : (ℕ → Bool) → List ℕ → ℕ → Salvage → Salvage → Type 0
+IsSavedAt failed bytes place before after = (IsWhole place bytes × IsSavedBlock (block_at place bytes) place before after) ⊎ (IsTrue (failed place) × IsNotedUnread place before after)
 
 -- the same where the bytes are known
-abbrev pub IsNextSaved : Option (List ℕ) → ℕ → Salvage → Salvage → Type 0
-IsNextSaved known place before after = IfSome known (λ bytes. IsSavedAt bytes place before after)
+abbrev pub IsNextSaved : (ℕ → Bool) → Option (List ℕ) → ℕ → Salvage → Salvage → Type 0
+IsNextSaved failed known place before after = IfSome known (λ bytes. IsSavedAt failed bytes place before after)
 
 -- ---- of the first blocks, so many
 
-abbrev pub IsSalvage : List ℕ → ℕ → Salvage → Type 0
-IsSalvage bytes zero salvage = IsNothing salvage
-IsSalvage bytes (suc count) salvage = (before : Salvage) × IsSalvage bytes count before × IsSavedAt bytes count before salvage
+abbrev pub IsSalvage : (ℕ → Bool) → List ℕ → ℕ → Salvage → Type 0
+IsSalvage failed bytes zero salvage = IsNothing salvage
+IsSalvage failed bytes (suc count) salvage = (before : Salvage) × IsSalvage failed bytes count before × IsSavedAt failed bytes count before salvage
 
 -- the same where the bytes are known
-abbrev pub IsSalvageOf : Option (List ℕ) → ℕ → Salvage → Type 0
-IsSalvageOf known count salvage = IfSome known (λ bytes. IsSalvage bytes count salvage)
+abbrev pub IsSalvageOf : (ℕ → Bool) → Option (List ℕ) → ℕ → Salvage → Type 0
+IsSalvageOf failed known count salvage = IfSome known (λ bytes. IsSalvage failed bytes count salvage)

@@ -1,5 +1,5 @@
 -- Of bytes whose blocks are pages and others with their digests just the pages' pairs are saved, and no block is lost.
-use Rattle.std.specs.Prelude.{◌≡◌, ◌<◌, ℕ, List, [], Option, Some, None, flat_map, get_or, length, map}
+use Rattle.std.specs.Prelude.{◌≡◌, ◌<◌, ℕ, Bool, List, [], Option, Some, None, flat_map, get_or, length, map}
 use Rattle.exh_prefix.specs.declared.version.Version.{Version as KnownVersion}
 use Rattle.exh_prefix.specs.Layout.{layout}
 use Rattle.exh_keyer.specs.declared.any_keyer.AnyKeyer.{AnyKeyer}
@@ -38,5 +38,5 @@ pub record IsWhole (pages : List (Option Page)) (salvage : Salvage) : Type 0 whe
   pub lost : salvage.lost ≡ 0
 
 abbrev pub WholeFilesAreSaved : Type 0
-WholeFilesAreSaved = (bytes : List ℕ) (pages : List (Option Page)) (salvage : Salvage) → ((place : ℕ) → place < length pages → Stands (get_or pages place None) (block_at place bytes))
-    → IsSalvage bytes (length pages) salvage → salvage.unread ≡ 0 → IsWhole pages salvage
+WholeFilesAreSaved = (failed : ℕ → Bool) (bytes : List ℕ) (pages : List (Option Page)) (salvage : Salvage) → ((place : ℕ) → place < length pages → Stands (get_or pages place None) (block_at place bytes))
+    → IsSalvage failed bytes (length pages) salvage → salvage.unread ≡ 0 → IsWhole pages salvage

@@ -2,7 +2,7 @@
 #![tactic(auto)]
 
 pub use laws::{pages_are_saved, whole_files_are_saved};
-pub use read_blocks::ReadBlocks;
+pub use read_blocks::{ReadBlocks, blocks_in};
 pub use repeats::{Repeat, repeats_in};
 pub use salvage::{SHOWN_PLACES, Salvage, SavedPair};
 pub use salvaging::salvage_of;

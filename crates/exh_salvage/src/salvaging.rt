@@ -1,20 +1,20 @@
 //! The blocks of a file, gone through one after the other.
-ghost use Rattle.std.specs.Prelude.{◌≡◌, ◌<◌, ◌-◌, ◌^◌, ◌+◌, ◌≤◌, IfOk, OnOk};
+ghost use Rattle.std.specs.Prelude.{◌≡◌, ◌<◌, ◌-◌, ◌^◌, ◌+◌, ◌≤◌, ℕ, IfOk, IsTrue, OnOk};
 ghost use Rattle.exh_salvage.specs.Salvage.{IsNextSaved, IsSalvageOf, IsSavedBlock};
 
 use crate::{ReadBlocks, Salvage, Saved, saved_of};
 use exh_codec::BLOCK_LEN;
 use std::alloc::{AllocError, Global};
 
-/// Goes through the first blocks of a file, so many, and keeps the pairs of each that is the image of a live page, in the order
-/// of the blocks, whatever the others are. A block that can't be read is lost, and so is one whose digest isn't that of its
-/// content. It takes memory for the pairs: an `AllocError` where that is refused.
+/// Goes through the first blocks of a file, so many, and keeps the pairs of each that is the image of a live page, in the
+/// order of the blocks, whatever the others are. It tries to read each block: one that can't be read is lost, and so is
+/// one whose digest isn't that of its content. It takes memory for the pairs: an `AllocError` where that is refused.
 pub fn salvage_of<B: ReadBlocks>(
     alloc: Global,
     blocks: &mut B,
     count: u32,
 ) -> Result<Salvage, AllocError>
-    ensures { IfOk result (IsSalvageOf (B.known blocks.old) count) }
+    ensures { IfOk result (IsSalvageOf (B.failed blocks.new) (B.known blocks.old) count) }
 {
     let mut salvage = Salvage::nothing(alloc);
     for place in 0..count {
@@ -38,7 +38,8 @@ fn salvage_next<B: ReadBlocks>(
     ensures live { OnOk result (salvage.new.live ≤ place + 1) }
     ensures lost { OnOk result (salvage.new.lost ≤ place + 1) }
     ensures unread { OnOk result (salvage.new.unread ≤ place + 1) }
-    ensures next { OnOk result (IsNextSaved (B.known blocks.old) place salvage.old salvage.new) }
+    ensures still { (other : ℕ) → IsTrue (B.failed blocks.old other) → IsTrue (B.failed blocks.new other) }
+    ensures next { OnOk result (IsNextSaved (B.failed blocks.new) (B.known blocks.old) place salvage.old salvage.new) }
 {
     let mut block = [0; BLOCK_LEN];
     match blocks.read(place, &mut block) {

@@ -55,5 +55,5 @@ pub saved : WholeFilesAreSaved → (pages : List (Option Page)) (own : List Page
     → IsOfAll bytes salvage → SavesJust own salvage
 saved whole pages own bytes salvage blocks pairs is =
     let count : is.count ≡ length pages = omega (arith, is.all, all_blocks pages bytes blocks) in
-    let just : IsWhole pages salvage = whole bytes pages salvage (stands_at pages bytes blocks) (subst (λ (count : ℕ). IsSalvage bytes count salvage) count is.is) is.read in
+    let just : IsWhole pages salvage = whole is.failed bytes pages salvage (stands_at pages bytes blocks) (subst (λ (count : ℕ). IsSalvage is.failed bytes count salvage) count is.is) is.read in
     record { pairs = just.pairs ∙ pairs; lost = just.lost }

@@ -1,5 +1,5 @@
 -- Of a legal page file, of any version, a salvage of all blocks saves just the pairs of its pages, in the order of the blocks.
-use Rattle.std.specs.Prelude.{◌≡◌, ◌⊎◌, ℕ, ◌*◌, ◌^◌, ◌<◌, List, flat_map, length, map}
+use Rattle.std.specs.Prelude.{◌≡◌, ◌⊎◌, ℕ, Bool, ◌*◌, ◌^◌, ◌<◌, List, flat_map, length, map}
 use Rattle.std.specs.FinMap.{from_entries}
 use Rattle.std.specs.List.{AllByRecursion}
 use Rattle.exh_prefix.specs.declared.version.Version.{Version as KnownVersion}
@@ -26,7 +26,8 @@ use Rattle.exh_map.specs.Pairs.{AreOnce}
 pub record IsOfAll (bytes : List ℕ) (salvage : Salvage) : Type 0 where
   pub count : ℕ
   pub all : length bytes ≡ BLOCK_LEN * count
-  pub is : IsSalvage bytes count salvage
+  pub failed : ℕ → Bool
+  pub is : IsSalvage failed bytes count salvage
   pub read : salvage.unread ≡ 0
 
 -- just the pages' pairs are saved, and no block is lost

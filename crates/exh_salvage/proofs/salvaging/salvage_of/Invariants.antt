@@ -9,5 +9,5 @@ invariant-loop-place g l = record {
   lost : l.salvage.lost ≤ l.place;
   unread : l.salvage.unread ≤ l.place;
   same : g.B.ReadBlocks.known l.blocks ≡ g.B.ReadBlocks.known l.fn.blocks;
-  so_far : IsSalvageOf (g.B.ReadBlocks.known l.fn.blocks) l.place l.salvage;
+  so_far : IsSalvageOf (g.B.ReadBlocks.failed l.blocks) (g.B.ReadBlocks.known l.fn.blocks) l.place l.salvage;
 }
