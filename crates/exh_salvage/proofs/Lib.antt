@@ -1,3 +1,4 @@
 mod Steps
 mod SavedPages
 mod WholeFiles
+mod Repeated

@@ -1,4 +1,5 @@
 pub mod Blocks
+pub mod Repeats
 pub mod SavedBlock
 pub mod Salvage
 pub mod SavedLaws
