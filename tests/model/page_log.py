@@ -56,6 +56,7 @@ def changed_blocks(before, after):
 
 
 def has_other_front(log):
-    """Whether a log of blocks has other bytes behind its first one than all of them, and isn't begun with zeros."""
-    front = log[1:FRONT]
-    return front != header()[1:FRONT][: len(front)] and (len(log) > LEAST or any(log))
+    """Whether a log begins otherwise than all logs of blocks, open or shut by its first byte, and isn't begun with zeros."""
+    first, front = log[:1], log[1:FRONT]
+    is_own = first in (b"", b"\0", header()[:1]) and front == header()[1:FRONT][: len(front)]
+    return not is_own and (len(log) > LEAST or any(log))
