@@ -31,9 +31,14 @@ def header(salt=b"saltsalt", block=BLOCK, count=0):
     return front + struct.pack(">II", *checksum(front))
 
 
+def shut(log, salt=b"saltsalt"):
+    """A log that is shut behind its last frame: a frame's bytes up to the one that shuts it, as an opening leaves it."""
+    return log + bytes(EMPTY - HEADER - 1) + bytes([salt[0] ^ 1])
+
+
 def empty_log(salt=b"saltsalt"):
-    """A log that was emptied: its header, and a frame's bytes up to the one that shuts it."""
-    return header(salt) + bytes(EMPTY - HEADER - 1) + bytes([salt[0] ^ 1])
+    """A log that was emptied: its header, and nothing behind it."""
+    return shut(header(salt), salt)
 
 
 def log_of(commits, count, salt=b"saltsalt"):

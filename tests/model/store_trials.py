@@ -4,7 +4,6 @@ each growth of memory, full disks, and many processes at once."""
 import contextlib
 import errno
 import itertools
-import os
 import random
 import tempfile
 import threading
@@ -18,6 +17,7 @@ from .in_place import MEMORY, PLACE
 from .page_file import bytes_of_file, put
 from .page_reader import Fault
 from .placed_file import DRAWN, placed_file
+from .saving import others_beside
 from .store_program import MEMORY_REFUSED, REFUSED, StoreRun, Wrong
 from .trap_rooms import fill, free, small_room
 from .version import CURRENT
@@ -27,9 +27,8 @@ KEYS = 12
 # What is said of a change that is saved, and of one that is saved or not, which the next opening tells. A store that was told
 # one of these commits no more.
 SAVED, UNSURE = REFUSED + "the change was saved", REFUSED + "the change may have been saved"
-# What is said of a commit that found no memory before anything was saved, and of one that is saved by a store that commits no
-# more.
-UNSAVED, UNHELD = REFUSED + "nothing was saved: out of memory", REFUSED + "it is saved, but can't be opened again"
+# What is said of a commit that is saved by a store that commits no more.
+UNHELD = REFUSED + "it is saved, but can't be opened again"
 # The blocks that are left of a small file system.
 LEFT = range(0, 24, 2)
 PROCESSES, COMMITS = 4, 10
@@ -131,8 +130,8 @@ def see_next(program, folder, allowed):
         run.end()
     if pairs_at(folder) not in [{**pairs, b"zz": b"1"} for pairs in allowed]:
         raise Wrong("the pairs are other ones behind the next commit")
-    if os.listdir(folder) != [PLACE]:
-        raise Wrong(f"left: {sorted(os.listdir(folder))}")
+    if beside := others_beside(folder, PLACE):
+        raise Wrong(f"left: {beside}")
 
 
 # ---- calls of the system
@@ -242,7 +241,7 @@ def growing_lines(errand):
 def asked_again(run, line, wanted):
     """Asks a line, and again where memory was refused and nothing done; False where the run is gone."""
     answer = run.told(line)
-    if answer is not None and answer.startswith((MEMORY_REFUSED, UNSAVED)):
+    if answer is not None and answer.startswith(MEMORY_REFUSED):
         answer = run.told(line)
     if answer is None:
         return False

@@ -3,21 +3,24 @@
 import os
 import shutil
 
+from .beside_files import TRAPS as BESIDE
 from .cut_off import LATER, LOG, laid
 from .foreign_logs import NO_LOG
 from .foreign_logs import TRAPS as FOREIGN
-from .in_place import FIRST_LINE, MORE, PAIRS, PLACE, calling, key_of
+from .in_place import FIRST_LINE, MORE, PAIRS, PLACE, calling, files_in, key_of
+from .own_logs import OTHERS, UNFIT
+from .own_logs import TRAPS as OWN
 from .page_file import BLOCK, sealed
 from .page_reader import Live
 from .placed_change import block_of
 from .placed_file import EMPTY, OF_GROUP, SLOTS, Cell, header_of, page_block_at, walk_block_at
+from .replaced_files import TRAPS as REPLACED
 from .rooms import SHARED_FOLDER, USERS
 from .trap_rooms import Wrong, fill, free, room_with, shared_room, small_room
 
 LINK = "link.exh"
 # What each sentence of a refusal begins with.
 REFUSED = f"exhash: {PLACE}: "
-OTHERS = "is another file's"
 # What the put that is cut off leaves, as it is got.
 DIGITS = b"637574\n"
 # The bytes of a log from which all was copied.
@@ -42,24 +45,26 @@ def another_file(program):
 
 
 def log_of_another_file(program, left, _):
-    """The log of a run that was cut off beside another file: it is refused, and named, until it is removed."""
+    """The log of a run that was cut off beside another file, which has too few blocks for it: it is refused, and named, until it
+    is removed."""
     with room_with(program, {**left, PLACE: another_file(program)}) as room:
         for words in (["put", PLACE, "k", "v"], ["del", PLACE, "a"], ["swap", PLACE, "a", "b", "c"]):
-            room.is_let_be(words, OTHERS)
-        room.is_let_be(["get", PLACE, "a"], OTHERS)
-        room.is_let_be(["check", PLACE], OTHERS, text=b"refused 41\n")
+            room.is_let_be(words, UNFIT)
+        room.is_let_be(["get", PLACE, "a"], UNFIT)
+        room.is_let_be(["check", PLACE], UNFIT, text=b"refused 41\n")
         room.at(LOG).unlink()
         room.wants(["put", PLACE, "k", "v"], 0, b"new\n")
         room.has({"a": "b", "k": "v"})
 
 
 def log_of_a_file_that_is_gone(program, left, _):
-    """The same where the file was removed, and another one converted to its place."""
+    """The same where the file was removed, and another one moved to its place."""
     with room_with(program, left) as room:
         room.at(PLACE).unlink()
         room.wants(["load", "plain.exh"], 0, given=FIRST_LINE + b"a b\n")
-        room.wants(["convert", "plain.exh", PLACE], 0)
-        room.is_let_be(["put", PLACE, "k", "v"], OTHERS)
+        room.wants(["convert", "plain.exh", "moved.exh"], 0)
+        room.at("moved.exh").rename(room.at(PLACE))
+        room.is_let_be(["put", PLACE, "k", "v"], UNFIT)
         room.at(LOG).unlink()
         room.has({"a": "b"})
 
@@ -242,6 +247,23 @@ def above_a_gib(program, _, __):
 # ---- what a user may do
 
 
+def reads_by_the_log(room, pairs, user=None):
+    """Each reading finds the pairs that a file and its log have together, and leaves both as they are."""
+    before = files_in(room.folder)
+    for key, value in pairs.items():
+        room.wants(calling("get", key), 0, f"{value.encode().hex()}\n".encode(), user=user)
+    room.has(pairs, user=user)
+    room.wants(["dump", PLACE], 0, user=user)
+    told = {words: room.run([words, PLACE], user=user) for words in ("export", "stats")}
+    for words, done in told.items():
+        if done.returncode or done.stderr:
+            raise Wrong(f"{words}: status {done.returncode}: {done.stderr[:200]}")
+    if len(told["export"].stdout.splitlines()) != len(pairs) + 2:
+        raise Wrong(f"export: {told['export'].stdout[:200]}")
+    if files_in(room.folder) != before:
+        raise Wrong("a reading changed a file")
+
+
 def file_to_read(program, _, alone):
     """A file that may only be read: it is, and isn't changed."""
     with shared_room(program, alone, USERS[0]) as room:
@@ -251,7 +273,8 @@ def file_to_read(program, _, alone):
 
 
 def folder_to_read(program, left, alone):
-    """A folder in which nothing can be made: its file is read, and isn't changed; one with a log isn't read."""
+    """A folder in which nothing can be made: its file is read, and isn't changed. One whose log may be read alone is read with
+    it, and the log stays."""
     with shared_room(program, alone, USERS[0]) as room:
         os.chmod(room.folder, 0o555)
         room.is_let_be(["put", PLACE, "k", "v"], REFUSED, user=USERS[0])
@@ -261,9 +284,11 @@ def folder_to_read(program, left, alone):
         os.chown(room.at(LOG), *USERS[1])
         os.chmod(room.at(LOG), 0o444)
         os.chmod(room.folder, 0o555)
-        room.is_let_be(calling("get", key_of(1)), REFUSED, user=USERS[0])
+        reads_by_the_log(room, LATER, USERS[0])
+        room.is_let_be(["put", PLACE, "k", "v"], REFUSED, user=USERS[0])
         os.chmod(room.folder, SHARED_FOLDER)
         room.has(LATER)
+        room.has_no_log()
 
 
 def sticky_folder(program, left, _):
@@ -290,6 +315,9 @@ def full_disk(program, _, alone):
             done = room.run(calling("put", key, "v"))
             if done.returncode not in (0, 1) or (done.returncode == 1) != bool(done.stderr):
                 raise Wrong(f"{left} blocks: status {done.returncode}: {done.stdout} {done.stderr[:200]}")
+            # What of its commit got into the log takes no room.
+            if b"stands in the log" not in done.stderr:
+                room.has_no_log()
             free(filler)
             room.has({**PAIRS, key: "v"} if done.returncode == 0 else PAIRS)
             room.wants(calling("put", key, "w"), 0)
@@ -297,10 +325,26 @@ def full_disk(program, _, alone):
             room.has_no_log()
 
 
+def del_on_a_full_disk(program, _, alone):
+    """A disk with room for so many blocks, and no log: a del is done where its log fits, and is else refused and changes
+    nothing."""
+    key = key_of(1)
+    for left in LEFT:
+        with small_room(program, alone) as room:
+            fill(room.at("filler"), left)
+            done = room.run(calling("del", key))
+            wanted = {LEFT[0]: (1,), LEFT[-1]: (0,)}.get(left, (0, 1))
+            if done.returncode not in wanted or (done.returncode == 1) != bool(done.stderr):
+                raise Wrong(f"{left} blocks: status {done.returncode}: {done.stdout} {done.stderr[:200]}")
+            room.has_no_log()
+            room.has({it: PAIRS[it] for it in PAIRS if it != key} if done.returncode == 0 else PAIRS)
+
+
 def full_disk_behind_the_log(program, _, alone):
-    """A put whose log is written, and whose blocks find no room in the file, is saved and says so. Until there is room each
-    reading and each change says why it isn't done, and changes nothing; then the next finds the put done."""
-    with small_room(program, alone) as room:
+    """A put whose log is written, and whose blocks find no room in the file, is saved and says so. Until there is room all is
+    read by the log, also for a copy elsewhere; each change says why it isn't done, and changes nothing. Then the next finds
+    the put done, and a del and a compact free more."""
+    with small_room(program, alone) as room, room_with(program, {}) as elsewhere:
         filler, pairs = room.at("filler"), {**PAIRS}
         fill(filler, FEW)
         for key in (f"#{number * 40503 % 65536:04x}d1" for number in range(1000)):
@@ -309,18 +353,27 @@ def full_disk_behind_the_log(program, _, alone):
                 break
         if b"stands in the log" not in done.stderr:
             raise Wrong(f"status {done.returncode}: {done.stdout} {done.stderr[:200]}")
-        tries = [(words, b"") for words in (calling("get", key), calling("put", key, "w"), calling("del", key_of(1)))]
-        for words, text in (*tries, (["check", PLACE], b"refused 41\n")):
-            room.is_let_be(words, "can't be copied into it: No space left on device (os error 28) (refused 41)", text=text)
+        for words in (calling("put", key, "w"), calling("del", key_of(1)), ["import", PLACE]):
+            room.is_let_be(words, "can't be copied into it: No space left on device (os error 28) (refused 41)")
+        reads_by_the_log(room, pairs)
+        room.wants(["backup", PLACE, str(elsewhere.at("copy.exh"))], 0)
+        elsewhere.has(pairs, "copy.exh")
         free(filler)
         room.has(pairs)
         room.has_no_log()
+        del pairs[key]
+        room.wants(calling("del", key), 0)
+        room.wants(["compact", PLACE], 0)
+        room.has(pairs)
 
 
 TRAPS = {
     it.__name__.replace("_", " "): it
     for it in (
         *FOREIGN,
+        *OWN,
+        *BESIDE,
+        *REPLACED,
         log_of_another_file,
         log_of_a_file_that_is_gone,
         log_of_a_copy,
@@ -341,6 +394,7 @@ TRAPS = {
         folder_to_read,
         sticky_folder,
         full_disk,
+        del_on_a_full_disk,
         full_disk_behind_the_log,
     )
 }

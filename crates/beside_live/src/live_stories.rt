@@ -40,12 +40,13 @@ enum Story {
 }
 
 // All of them, in the order in which they are played.
-const STORIES: [Story; 17] = [
+const STORIES: [Story; 18] = [
     Story::OneCaller(OneCaller::ToldCopy),
     Story::Closing,
     Story::OneCaller(OneCaller::Courier),
     Story::OneCaller(OneCaller::Keeper),
     Story::OneCaller(OneCaller::FourWards),
+    Story::OneCaller(OneCaller::SixteenWards),
     Story::OneCaller(OneCaller::Long),
     Story::OneCaller(OneCaller::FarBehind),
     Story::OneCaller(OneCaller::EvenHalf),
@@ -82,6 +83,7 @@ impl Named for Story {
             Story::OneCaller(OneCaller::Courier) => "courier",
             Story::OneCaller(OneCaller::Keeper) => "keeper",
             Story::OneCaller(OneCaller::FourWards) => "four-wards",
+            Story::OneCaller(OneCaller::SixteenWards) => "sixteen-wards",
             Story::OneCaller(OneCaller::Long) => "long",
             Story::OneCaller(OneCaller::FarBehind) => "far-behind",
             Story::OneCaller(OneCaller::EvenHalf) => "even-half",

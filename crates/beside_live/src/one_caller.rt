@@ -10,8 +10,8 @@ use crate::written_ward::written_ward;
 use exh_copy::Start;
 use exh_fakes::lists::{
     COURIER, EVEN_HALF, FAR_BEHIND, FOUR_WARDS, KEEPER, LATE_COURIER, LONG, MERGED_COURIER,
-    ODD_HALF, OPENED_COURIER, REFUSED_COURIER, SEVEN_SPLITS, THREE_KEYS, THREE_KEYS_EACH,
-    TOLD_COPY, WORN_KEEPER, WRONG_HINT,
+    ODD_HALF, OPENED_COURIER, REFUSED_COURIER, SEVEN_SPLITS, SIXTEEN_WARDS, THREE_KEYS,
+    THREE_KEYS_EACH, TOLD_COPY, TWO_KEYS_EACH, WORN_KEEPER, WRONG_HINT,
 };
 use exh_fakes::{
     LiveStep, PlainFile, Reader, Writer, close_settled, new_file, next_caller, one_ward_file,
@@ -39,6 +39,8 @@ pub(crate) enum OneCaller {
     /// Of sixteen wards four get keys: a copy is told of their splits, and then of the merges that a keeper
     /// makes in each.
     FourWards,
+    /// Sixteen wards whose pages have one record get two keys each: a copy is told of a split of each.
+    SixteenWards,
     /// A courier makes 2,000 rounds and a caller 20,001 calls; then it looks at a copy that is closed.
     Long,
     /// A courier makes a round after hundreds of changes.
@@ -73,6 +75,7 @@ impl OneCaller {
         match self {
             OneCaller::EvenHalf => 4,
             OneCaller::OddHalf => 5,
+            OneCaller::SixteenWards => 1,
             _ => 2,
         }
     }
@@ -82,7 +85,7 @@ impl OneCaller {
         ensures { result ≤ WARD_BITS_LIMIT }
     {
         match self {
-            OneCaller::FourWards => 4,
+            OneCaller::FourWards | OneCaller::SixteenWards => 4,
             _ => 0,
         }
     }
@@ -122,6 +125,7 @@ impl OneCaller {
             OneCaller::OddHalf => 11,
             OneCaller::Keeper => 12,
             OneCaller::FourWards => 24,
+            OneCaller::SixteenWards => 48,
             OneCaller::FarBehind => 1_716,
             OneCaller::Long => 20_007,
         }
@@ -142,6 +146,7 @@ impl OneCaller {
     fn further_steps(self) -> [&'static [LiveStep]; 2] {
         match self {
             OneCaller::FarBehind => [&THREE_KEYS, &FAR_BEHIND],
+            OneCaller::SixteenWards => [&TWO_KEYS_EACH, &SIXTEEN_WARDS],
             OneCaller::EvenHalf => [&EVEN_HALF, &[]],
             OneCaller::OddHalf => [&ODD_HALF, &[]],
             OneCaller::OpenedCourier => [&OPENED_COURIER, &[]],

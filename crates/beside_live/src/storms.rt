@@ -4,7 +4,7 @@ ghost use Rattle.exh_page.specs.StormConfig.{IsStormConfig};
 use exh_fakes::{Conductor, Count, Rule, Then, Who};
 use exh_fixtures::{Part, Run, again, same};
 use exh_frames::PlainMaker;
-use exh_live::{StormFault, storm_over};
+use exh_live::{COURIER_CLIENT, StormFault, storm_over};
 use exh_page::StormConfig;
 use std::alloc::Global;
 use std::sync::Wait;
@@ -28,6 +28,8 @@ pub(crate) enum Storms {
     Small,
     /// What a watch is told.
     Told,
+    /// Which copy each caller looks at.
+    Looks,
 }
 
 // Caller 1 waits at turn 1 until caller 2 has passed turn 1 twice.
@@ -104,6 +106,31 @@ const NOES_OF_LONG: [(u32, u32, Result<u64, u8>); 4] = [
 // first; in the second the second courier, and what can't be made comes before it.
 const UNMADE: [(u32, Result<u64, u8>); 2] = [(1, Err(50)), (65_602, Err(10))];
 
+// Three callers make their ten calls one after the other: the leader; another one, who goes on once the copy of this
+// number is told of the leader's splits, of which there are so many; and the last one. Both have looked for their
+// first call before the leader begins, and nothing more is told or merged until all is answered. For how many of
+// their calls each of the two takes a second turn is counted.
+fn in_order(leader: u8, other: u8, last: u8, told: u8, splits: u64) -> [Rule; 11] {
+    let leader = Who::Client(u32::from(leader));
+    let other = Who::Client(u32::from(other));
+    let last = Who::Client(u32::from(last));
+    let untold = Who::Client(COURIER_CLIENT + if told == 1 { 2 } else { 1 });
+    let told = Who::Client(COURIER_CLIENT + u32::from(told));
+    [
+        Rule(leader, Some(1), Then::Wait(Count::Third, 2)),
+        Rule(other, Some(1), Then::Raise(Count::Third)),
+        Rule(last, Some(1), Then::Raise(Count::Third)),
+        Rule(told, Some(1), Then::Wait(Count::Calls, 10)),
+        Rule(other, Some(1), Then::Wait(Count::Notices, splits)),
+        Rule(last, Some(1), Then::Wait(Count::Calls, 20)),
+        Rule(told, Some(2), Then::Wait(Count::Calls, 30)),
+        Rule(untold, None, Then::Wait(Count::Calls, 30)),
+        Rule(Who::Keepers, None, Then::Wait(Count::Calls, 30)),
+        Rule(other, Some(2), Then::Raise(Count::First)),
+        Rule(last, Some(2), Then::Raise(Count::Second)),
+    ]
+}
+
 /// How large a storm is.
 #[derive(Clone, Copy)]
 enum Size {
@@ -125,6 +152,8 @@ enum Size {
     Long,
     /// More copies than callers.
     Unseen,
+    /// Three callers over two copies and one ward, of one record a page.
+    Three,
 }
 
 impl Size {
@@ -140,6 +169,7 @@ impl Size {
             Size::Most => (16, 50, 16, 4, 8),
             Size::Long => (1, 2_000, 2, 0, 1),
             Size::Unseen => (2, 10, 2, 1, 5),
+            Size::Three => (3, 10, 1, 0, 2),
         };
         StormConfig {
             callers,
@@ -151,8 +181,9 @@ impl Size {
     }
 }
 
-// What a storm came to, or its refusal's number; and how many calls, merges and notices its watch was told.
-type Told = (Result<u64, u8>, [u64; 3]);
+// What a storm came to, or its refusal's number; how many calls, merges and notices its watch was told; and two counts of
+// its gate.
+type Told = (Result<u64, u8>, [u64; 3], [u64; 2]);
 
 /// Plays a story.
 pub(crate) fn play<R: Threads + Wait + Clock + Sync>(rt: &R, story: Storms, run: &mut Run) {
@@ -172,6 +203,7 @@ pub(crate) fn play<R: Threads + Wait + Clock + Sync>(rt: &R, story: Storms, run:
         Storms::Unmade => play_unmade(rt, run),
         Storms::Small => step(rt, run, Size::Small, &[], Ok(1)),
         Storms::Told => play_told(rt, run),
+        Storms::Looks => play_looks(rt, run),
     }
 }
 
@@ -197,8 +229,8 @@ fn step<R: Threads + Wait + Clock + Sync>(
     want: Result<u64, u8>,
 ) {
     let outcome = match told(rt, run.alloc, size, rules) {
-        (Ok(count), _) if run.lie.is_due() => Ok(count.wrapping_add(1)),
-        (outcome, _) => outcome,
+        (Ok(count), ..) if run.lie.is_due() => Ok(count.wrapping_add(1)),
+        (outcome, ..) => outcome,
     };
     run.tally.step(same(outcome == want, Part::Run));
 }
@@ -206,22 +238,34 @@ fn step<R: Threads + Wait + Clock + Sync>(
 // Storms whose watch's counts are looked at. In two of them the keepers run after the caller, and the courier after
 // both; in the last one of two callers is held at its first call.
 fn play_told<R: Threads + Wait + Clock + Sync>(rt: &R, run: &mut Run) {
-    let (outcome, counts) = told(rt, run.alloc, Size::Alone, &ORDER);
+    let (outcome, counts, _) = told(rt, run.alloc, Size::Alone, &ORDER);
     let is_told = outcome == Ok(100) && counts == [100, 2, 17];
     let is_told = is_told != run.lie.is_due();
     run.tally.step(same(is_told, Part::Run));
-    let (outcome, counts) = told(rt, run.alloc, Size::Eight, &ORDER_OF_EIGHT);
+    let (outcome, counts, _) = told(rt, run.alloc, Size::Eight, &ORDER_OF_EIGHT);
     run.tally.step(same(outcome == Ok(100) && counts == [100, 3, 40], Part::Run));
     let no = Rule(Who::Client(1), Some(1), Then::No);
-    let (outcome, [calls, ..]) = told(rt, run.alloc, Size::Few, &[no]);
+    let (outcome, [calls, ..], _) = told(rt, run.alloc, Size::Few, &[no]);
     run.tally
         .step(same(outcome == Err(50) && calls == 10, Part::Run));
+}
+
+// Two storms in which callers that look at a copy that is told of splits need fewer second turns than the others. In the
+// first caller 2 looks at the second copy, and caller 3 at the first one; in the second the callers 1 and 3 look at the first.
+fn play_looks<R: Threads + Wait + Clock + Sync>(rt: &R, run: &mut Run) {
+    let (outcome, _, turns) = told(rt, run.alloc, Size::Three, &in_order(1, 2, 3, 2, 3));
+    let is_told = outcome == Ok(30) && turns == [6, 8];
+    let is_told = is_told != run.lie.is_due();
+    run.tally.step(same(is_told, Part::Run));
+    let (outcome, _, turns) = told(rt, run.alloc, Size::Three, &in_order(2, 1, 3, 1, 5));
+    run.tally
+        .step(same(outcome == Ok(30) && turns == [3, 5], Part::Run));
 }
 
 // A storm that nobody holds; and where it is refused 10, since a thread isn't made, two that are refused for
 // more than that.
 fn play_unmade<R: Threads + Wait + Clock + Sync>(rt: &R, run: &mut Run) {
-    let (outcome, _) = told(rt, run.alloc, Size::Few, &[]);
+    let (outcome, ..) = told(rt, run.alloc, Size::Few, &[]);
     let is_unmade = outcome == Err(10);
     let is_right = (is_unmade || outcome == Ok(20)) != run.lie.is_due();
     run.tally.step(same(is_right, Part::Run));
@@ -242,7 +286,7 @@ fn told<R: Threads + Wait + Clock + Sync>(
 ) -> Told {
     match again!(Err(StormFault::Memory) => told_once(rt, alloc, size, rules)) {
         Ok(told) => told,
-        Err(fault) => (Err(fault.number()), [0; 3]),
+        Err(fault) => (Err(fault.number()), [0; 3], [0; 2]),
     }
 }
 
@@ -265,6 +309,9 @@ fn told_once<R: Threads + Wait + Clock + Sync>(
         Err(StormFault::Memory) => return Err(StormFault::Memory),
         Err(fault) => Err(fault.number()),
     };
-    let counts = [Count::Calls, Count::Merges, Count::Notices];
-    Ok((outcome, counts.map(|count| conductor.count(count))))
+    let told = [Count::Calls, Count::Merges, Count::Notices];
+    let told = told.map(|count| conductor.count(count));
+    let counted = [Count::First, Count::Second];
+    let counted = counted.map(|count| conductor.count(count));
+    Ok((outcome, told, counted))
 }

@@ -23,7 +23,7 @@ pub(crate) enum Story {
 }
 
 /// All of them, in the order in which they are played.
-pub(crate) const STORIES: [Story; 13] = [
+pub(crate) const STORIES: [Story; 14] = [
     Story::HeldLook,
     Story::Locks,
     Story::LocksOverImages,
@@ -37,6 +37,7 @@ pub(crate) const STORIES: [Story; 13] = [
     Story::Storms(Storms::Unmade),
     Story::Storms(Storms::Small),
     Story::Storms(Storms::Told),
+    Story::Storms(Storms::Looks),
 ];
 
 impl Named for Story {
@@ -55,6 +56,7 @@ impl Named for Story {
             Story::Storms(Storms::Unmade) => "unmade",
             Story::Storms(Storms::Small) => "small",
             Story::Storms(Storms::Told) => "told",
+            Story::Storms(Storms::Looks) => "looks",
         }
     }
 }

@@ -5,9 +5,10 @@ use crate::storm_run::tell_storm;
 use crate::storm_watch::StormWatch;
 use exh_everyday::{Status, console};
 use exh_frames::MAKER;
-use exh_live::{OpenGate, StormFault, storm, storm_over};
+use exh_live::{NoWatch, OpenGate, StormEnd, StormFault, Watch, storm_left};
 use exh_page::StormConfig;
 use exh_stream::{Console, Output, StormMeter};
+use std::alloc::Global;
 use std::io;
 use std::io::Stderr;
 use std::sync::Wait;
@@ -24,7 +25,7 @@ pub(crate) fn run_storm(
 {
     let outcome = match console(rt) {
         Some(console) => watched_storm(rt, threads, config, console),
-        None => storm(threads, rt.alloc(), config, &OpenGate),
+        None => storm_of(threads, rt.alloc(), config, &NoWatch),
     };
     tell_storm(outcome, &mut Output::new(&mut io::writer(rt)))
 }
@@ -40,7 +41,23 @@ fn watched_storm(
 {
     let mut meter = StormMeter::new(console);
     let watch = StormWatch { meter: &meter };
-    let outcome = storm_over(threads, rt.alloc(), &MAKER, config, &OpenGate, &watch);
+    let outcome = storm_of(threads, rt.alloc(), config, &watch);
     meter.clear();
     outcome
+}
+
+// How many answers a storm settled, or the first refusal of its workers.
+fn storm_of<R: Threads + Wait + Sync, W: Watch + Sync>(
+    threads: &R,
+    alloc: Global,
+    config: &StormConfig,
+    watch: &W,
+) -> Result<u64, StormFault>
+    requires { IsStormConfig config.now }
+{
+    let StormEnd { left, .. } = storm_left(threads, alloc, &MAKER, config, &OpenGate, watch);
+    match left {
+        Ok(left) => Ok(left.answers),
+        Err(fault) => Err(fault),
+    }
 }

@@ -9,4 +9,5 @@ pub mod CommitFault
 pub mod Change
 pub mod AloneLaws
 pub mod LogLook
+pub mod LogLine
 pub mod SeenFiles

@@ -1,6 +1,6 @@
 //! How the header of a log of blocks is laid, and signed.
 ghost use Rattle.std.specs.Prelude.{◌≡◌, ◌+◌, ◌≤◌, ◌↔◌, length, take, IsTrue};
-ghost use Rattle.sqlite_wal.specs.Format.{IsHeader, IsSigned, be32, stored_sum};
+ghost use Rattle.sqlite_wal.specs.Format.{IsHeader, IsSigned, be32, be64, stored_sum};
 ghost use Rattle.exh_codec.specs.declared.block.TheConstants.{BLOCK_LEN as BlockLen};
 ghost use Rattle.exh_commit.specs.LogLook.{BeginsAs, front};
 
@@ -49,6 +49,14 @@ fn get_be32(bytes: &[u8], at: usize) -> u32
         + bytes[at + 1] as u32 * 0x1_0000
         + bytes[at + 2] as u32 * 0x100
         + bytes[at + 3] as u32
+}
+
+/// Eight bytes as a number, the highest first.
+pub(crate) fn get_be64(bytes: &[u8], at: usize) -> u64
+    requires { at + 8 ≤ length bytes.now }
+    ensures { result ≡ be64 bytes.now at }
+{
+    get_be32(bytes, at) as u64 * 0x1_0000_0000 + get_be32(bytes, at + 4) as u64
 }
 
 fn get_sum(bytes: &[u8], at: usize) -> (u32, u32)

@@ -11,22 +11,19 @@ ghost use Rattle.exh_commit.specs.LogLook.{HasOwnCommits, IsCause, IsHeaderOfPag
 use crate::log_header::{FIRST, begins_as, is_header};
 use crate::{LogFault, SeenFiles};
 use exh_codec::{BLOCK_LEN, are_zero};
+use exh_edits::{MAGIC, PLACED_NUMBER};
 use sqlite_disk::{Disk, Files};
 use sqlite_pager::{Error, PageSize};
 use sqlite_wal::probe_frames;
 use std::alloc::Global;
 use std::io;
 
-// A log of no more bytes has no commit.
-const EMPTY_LEN: usize = 56;
+/// A log of no more bytes has no commit.
+pub(crate) const EMPTY_LEN: usize = 56;
 
 const HEADER_LEN: usize = 32;
 
 const FRAME_HEADER_LEN: usize = 24;
-// How a page file begins, and the number of the version whose files have logs.
-const MAGIC: [u8; 8] = *b"EXHASHPF";
-
-const VERSION: [u8; 2] = [0, 3];
 
 /// Looks at what stands at the log's name, and writes nothing. It goes on where that is a log of page files, is being emptied,
 /// or has at most 56 bytes and is a log that was begun, or empty. It takes memory for the log's frames.
@@ -158,8 +155,8 @@ fn has_header<D: Disk>(log: &mut D, numbers: &[u32]) -> Result<bool, Error>
     }
 }
 
-// Where the block of a frame stands in a log.
-fn content_at(frame: usize) -> usize
+/// Where the block of a frame stands in a log.
+pub(crate) fn content_at(frame: usize) -> usize
     ensures { 56 + 4120 * frame < 2 ^ 64 → result ≡ 56 + 4120 * frame }
 {
     let frames = frame.saturating_mul(FRAME_HEADER_LEN + BLOCK_LEN);
@@ -169,7 +166,7 @@ fn content_at(frame: usize) -> usize
 fn is_header_of_pages(block: &[u8; BLOCK_LEN]) -> bool
     ensures { IsTrue result ↔ IsHeaderOfPages block.now }
 {
-    block[..8] == MAGIC[..] && block[8] == VERSION[0] && block[9] == VERSION[1]
+    block[..8] == MAGIC[..] && block[8] == 0 && u16::from(block[9]) == PLACED_NUMBER
 }
 
 // The last frame of page 1.

@@ -1,5 +1,6 @@
 ghost use Rattle.std.specs.Prelude.{◌≡◌, ℕ, List, IsTrue, IfOk, IfErr};
 ghost use Rattle.sqlite_wal.specs.Files.{seen_image};
+ghost use Rattle.sqlite_wal.specs.Reads.{AreClean};
 ghost use Rattle.exh_commit.specs.FilePages.{Leaves, LeavesAsFound, StandsFor};
 ghost use Rattle.exh_commit.specs.PagedFile.{IsHonest, IsReady, bytes_in, files_in};
 
@@ -25,6 +26,7 @@ pub fn open<D: Disk + Drop>(
     ensures found { IfOk result (λ it. IsHonest it → StandsFor (seen_image D.Disk files.log files.db) (bytes_in it)) }
     ensures one { IfOk result (λ it. IsHonest it → (old : List ℕ) → StandsFor (seen_image D.Disk files.log files.db) old → bytes_in it ≡ old) }
     ensures settled { IfOk result (λ it. Leaves D.Disk (files_in it) (λ bytes. bytes ≡ bytes_in it)) }
+    ensures clean { IfOk result (λ it. IsHonest it → AreClean D.Disk files.log files.db) }
     ensures kept { IfOk result (λ it. LeavesAsFound D.Disk (files.log, files.db) (files_in it)) }
     ensures given_back { IfErr result (λ failed. LeavesAsFound D.Disk (files.log, files.db) (failed.1.log, failed.1.db)) }
 {

@@ -1,5 +1,5 @@
 -- What a file that is made anew of pairs has, or which keys have no room in it.
-use Rattle.std.specs.Prelude.{◌≡◌, ◌≢◌, ◌⊎◌, ℕ, List, [], length, unwrap_or}
+use Rattle.std.specs.Prelude.{◌≡◌, ◌≢◌, ◌⊎◌, ℕ, List, [], length, sum_by, unwrap_or}
 use Rattle.std.specs.FinMap.{from_entries}
 use Rattle.exh_keyer.specs.Pseudokey.{any_pseudokey}
 use Rattle.exh_keyer.specs.declared.any_keyer.AnyKeyer.{AnyKeyer}
@@ -14,6 +14,7 @@ use Rattle.exhash.specs.Sizes.{IsOfOpening}
 use Rattle.exhash.specs.declared.StoreError.{StoreError}
 use Rattle.exhash.specs.declared.StoreError.TheVariants.{Settings}
 use Rattle.exhash.specs.Store.{IsOfSaving}
+use Rattle.exh_ward.specs.WardState.{WardState}
 use Rattle.exh_compact.specs.Needed.{AreAllNeeded}
 use Rattle.exh_compact.specs.Room.{without_room}
 use Rattle.exh_compact.specs.declared.compact_options.CompactOptions.{CompactOptions}
@@ -56,3 +57,7 @@ IsOfFilling settings fault = ((fault ≡ Settings) × (AreInRange settings → �
 -- a file isn't opened, its pairs aren't put into a new one, or that isn't saved in its place
 abbrev pub IsOfCompacting : StoreError → Type 0
 IsOfCompacting fault = IsOfOpening fault ⊎ ((settings : FileSettings AnyKeyer) × IsOfFilling settings fault) ⊎ IsOfSaving fault
+
+-- how many pages wards have, live and forwarding ones
+abbrev pub pages_in : {K : Type 0} → List (WardState K) → ℕ
+pages_in wards = sum_by (λ ward. length ward.pages) wards

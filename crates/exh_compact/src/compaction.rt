@@ -1,11 +1,13 @@
 //! A page file at a path that is made anew of its pairs.
-ghost use Rattle.std.specs.Prelude.{IfErr};
+ghost use Rattle.std.specs.Prelude.{◌≡◌, ◌-◌, ◌^◌, min, IfErr};
 ghost use Rattle.exhash.specs.Store.{IsOfSaving};
-ghost use Rattle.exh_compact.specs.Compacted.{IsOfCompacting};
+ghost use Rattle.exh_compact.specs.Compacted.{IsOfCompacting, pages_in};
 
 use crate::{CompactOptions, Compacted, compact_map};
 use exh_frames::FileStore;
+use exh_keyer::AnyKeyer;
 use exh_page::Key;
+use exh_ward::Ward;
 use exhash::{FileMap, HeldFile, Opened, StoreError};
 use std::io;
 
@@ -50,14 +52,14 @@ pub fn compact(
 {
     let (file, opened) = HeldFile::open(rt, path, seconds)?;
     let settings = options.over(opened.settings());
-    let pages_before = page_count(&opened);
+    let pages_before = page_count(opened.wards());
     let mut map = FileMap::new(opened);
     match compact_map(rt.alloc(), &mut map, settings)? {
         Compacted::Wards { wards, records } => {
             let counts = CompactCounts {
                 records: records as u64,
                 pages_before,
-                pages_after: page_count(&wards),
+                pages_after: page_count(wards.wards()),
             };
             replaced(rt, file, wards, counts)
         }
@@ -84,9 +86,11 @@ fn replaced(
 }
 
 // How many pages wards have.
-fn page_count(opened: &Opened<FileStore>) -> u64 {
+fn page_count(wards: &[Ward<FileStore, AnyKeyer>]) -> u64
+    ensures { result ≡ min (pages_in wards.now) (2 ^ 64 - 1) }
+{
     let mut count = 0u64;
-    for ward in opened.wards() {
+    for ward in wards {
         count = count.saturating_add(u64::from(ward.page_count()));
     }
     count

@@ -6,7 +6,7 @@ use crate::{Stats, stats_of};
 use exh_codec::BLOCK_LEN;
 use exh_format::version_in;
 use exh_prefix::Version;
-use exhash::{FileForm, Reading, StoreError, read_still, read_whole};
+use exhash::{FileForm, Reading, StoreError, read_still, read_whole, read_whole_bytes};
 use std::alloc::Global;
 use std::fs::File;
 use std::io;
@@ -29,6 +29,14 @@ impl Reading for StatsReading {
         let settings = opened.settings();
         let mut wards = opened.into_wards();
         Ok(stats_of(self.alloc, version, settings, &mut wards)?)
+    }
+
+    // Only a file of version 3 has a log, and is read so.
+    fn read_bytes(&mut self, bytes: &[u8]) -> Result<Stats, StoreError> {
+        let (opened, _form) = read_whole_bytes(self.alloc, bytes)?;
+        let settings = opened.settings();
+        let mut wards = opened.into_wards();
+        Ok(stats_of(self.alloc, 3, settings, &mut wards)?)
     }
 }
 

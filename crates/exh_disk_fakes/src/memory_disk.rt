@@ -257,7 +257,8 @@ impl MemoryDisk {
         node_at(&self.nodes, number)
     }
 
-    /// Writes bytes behind those that a file has, which nobody may read that might not read the old file.
+    /// Writes bytes behind those that a file has, which nobody may read that might not read the old file. The first ones wait
+    /// until it is finished.
     pub fn append(&mut self, number: usize, bytes: &[u8])
         ensures { self.new.past ≡ self.old.past }
     {
@@ -267,6 +268,7 @@ impl MemoryDisk {
             return;
         };
         let is_full = node.bytes.extend_from_slice(bytes).is_err();
+        node.mark();
         node.is_kept = false;
         node.about.size = node.bytes.len() as u64;
         node.about.modified = (time, 0);

@@ -2,7 +2,7 @@
 
 use crate::memory_disk::fault;
 use crate::memory_file::MemoryOpened;
-use exh_saving::Found;
+use exh_saving::{Found, UNFINISHED};
 use std::io;
 use std::io::ErrorKind;
 use std::rc::Rc;
@@ -25,6 +25,24 @@ impl Node {
         match &self.holder {
             Some(holder) => **holder == *opened.opening,
             None => false,
+        }
+    }
+
+    /// Marks it as unfinished, as far as it goes.
+    pub(crate) fn mark(&mut self) {
+        for (to, from) in self.bytes.iter_mut().zip(UNFINISHED.iter()) {
+            *to = *from;
+        }
+    }
+
+    /// Gives it the first of these bytes in place of the mark.
+    pub(crate) fn finish(&mut self, bytes: &[u8]) {
+        for (to, from) in self
+            .bytes
+            .iter_mut()
+            .zip(bytes.iter().take(UNFINISHED.len()))
+        {
+            *to = *from;
         }
     }
 }

@@ -7,7 +7,7 @@ use crate::memory_file::MemoryOpened;
 use crate::past::PATH;
 use crate::saver::Saver;
 use crate::side::Side;
-use exh_saving::{Kind, Seen};
+use exh_saving::{Kind, Seen, UNFINISHED};
 use std::alloc::{AllocError, Global};
 use std::io;
 use std::test::Fail;
@@ -15,7 +15,7 @@ use std::test::Fail;
 // More calls than a save makes.
 const CALLS: usize = 40;
 // What a killed save may have left: longer than what is saved.
-const LEFT: &[u8] = b"EXHASHPF that was killed before it had its place";
+const LEFT: &[u8] = b"EXHASHUF that was killed before it had its place";
 // Whether there is an old file, something that a save left, and a system with links.
 const SCENES: [(bool, bool, bool); 6] = [
     (true, true, true),
@@ -75,12 +75,38 @@ fn is_safe(disk: &mut MemoryDisk, fails_at: usize) -> bool {
     is_right && !disk.is_wrong && is_clean(disk, before)
 }
 
+// Whether a name beside the path is free, or has what a killed save left that no other takes over: a whole file, which was to
+// get the path next, or less than the mark, of which one write took a part alone.
+fn is_free_or_stays(disk: &MemoryDisk, name: Option<usize>) -> bool {
+    match name {
+        None => true,
+        Some(number) => match disk.nodes.get(number) {
+            Some(node) => stays(node.bytes.as_slice()),
+            None => false,
+        },
+    }
+}
+
+fn stays(bytes: &[u8]) -> bool {
+    let is_part = bytes.len() < UNFINISHED.len() && UNFINISHED.starts_with(bytes);
+    is_part || SAVED.iter().any(|saved| *saved == bytes)
+}
+
+fn are_free_or_stay(disk: &MemoryDisk) -> bool {
+    for name in &disk.names[1..] {
+        if !is_free_or_stays(disk, *name) {
+            return false;
+        }
+    }
+    true
+}
+
 // Whether a save that is killed at the call of this number leaves what it must, and the next one is done.
 fn is_safe_when_killed(disk: &mut MemoryDisk, killed_at: usize) -> bool {
     let _ = save_as(disk, Saver::killed(0, killed_at), None, Nobody);
     let next = save_as(disk, Saver::new(1), None, Nobody);
     disk.see();
-    let is_alone = disk.names[1..].iter().all(|name| name.is_none());
+    let is_alone = are_free_or_stay(disk);
     next == Ending::Settled && has_saved(disk, 1, next) && !disk.is_wrong && is_alone
 }
 
@@ -200,13 +226,15 @@ fn a_file_that_is_open_keeps_its_number(rt: HostRuntime) -> Result<(), Fail> {
     Ok(())
 }
 
-// What has the first name beside the path, and is no save's: a pipe, a file of two names, one of another user, a text.
+// What has the first name beside the path, and is no save's: a pipe, a file of two names, one of another user, a page file, a
+// text.
 fn strange_left_over(disk: &mut MemoryDisk, number: usize) {
     if let Some(node) = disk.nodes.last_mut() {
         match number {
             0 => node.about.kind = Kind::Other,
             1 => node.about.links = 2,
             2 => node.about.owner = USER + 1,
+            3 => node.finish(OLD),
             _ => {
                 if let Some(first) = node.bytes.first_mut() {
                     *first = b'x';
@@ -233,7 +261,7 @@ fn keeps_text(disk: &mut MemoryDisk) -> bool {
 
 #[test]
 fn replaces_and_takes_over_only_its_own(rt: HostRuntime) -> Result<(), Fail> {
-    for number in 0..4 {
+    for number in 0..5 {
         let mut disk = disk_of(rt.alloc(), (true, true, true))?;
         strange_left_over(&mut disk, number);
         assert_eq!(rt; takes_another_name(&mut disk), true, "at {number}");

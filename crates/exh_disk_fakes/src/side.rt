@@ -55,6 +55,15 @@ impl<'d, B: Between + Drop> Side<'d, B> {
         Ok(self.disk.node(number)?.about)
     }
 
+    // Gives a file its first bytes, in a call of its own.
+    fn finish(&mut self, file: &MemoryFile) -> io::Result<()>
+        ensures { known B.comes self.new.disk.now.past ≡ known B.comes self.old.disk.now.past }
+    {
+        self.enter()?;
+        node_at_mut(&mut self.disk.nodes, file.opened.node)?.finish(file.bytes.as_slice());
+        Ok(())
+    }
+
     // Gives a file the path, and takes its name away.
     fn give_path(&mut self, file: &MemoryFile, name: &str, path: &str) -> io::Result<()>
         ensures ok { OnOk result (history_at (known B.comes self.new.disk.now.past) path.now
@@ -350,6 +359,7 @@ impl<B: Between + Drop> Disk for Side<'_, B> {
         path: &str,
         held: &MemoryHeld,
     ) -> io::Result<()> {
+        self.finish(file)?;
         self.enter()?;
         let is_free = !self.disk.is_held(path, held);
         self.disk.is_wrong |= is_free;
@@ -359,6 +369,7 @@ impl<B: Between + Drop> Disk for Side<'_, B> {
     }
 
     fn link(&mut self, file: &mut MemoryFile, name: &str, path: &str) -> io::Result<bool> {
+        self.finish(file)?;
         self.enter()?;
         if !self.disk.has_links {
             file.stage = Stage::Unlinkable;
@@ -376,6 +387,7 @@ impl<B: Between + Drop> Disk for Side<'_, B> {
     }
 
     fn rename_new(&mut self, file: &mut MemoryFile, name: &str, path: &str) -> io::Result<()> {
+        self.finish(file)?;
         self.enter()?;
         self.give_path(file, name, path)?;
         file.stage = Stage::Placed;

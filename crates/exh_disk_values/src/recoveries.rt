@@ -3,14 +3,12 @@ ghost use Rattle.std.specs.Prelude.{⊤, IsTrue, IfOk};
 ghost use Rattle.sqlite_disk.specs.Disk.{Only};
 
 use exh_codec::{BLOCK_LEN, seal};
-use exh_commit::{BlockEdit, Blocks, Changer, DirectFault, SeenFiles, see_log};
+use exh_commit::{BlockEdit, Blocks, Changer, DirectFault, SeenFiles, open, see_log};
 use exh_in_place::{Expected, FilesFault, change_files, recover_files};
 use sqlite_disk::{Disk, Files, Memory};
 use sqlite_pager::Options;
 use std::alloc::Global;
 use std::test::Fail;
-
-const STAMP: u8 = 5;
 
 fn options() -> Options {
     Options {
@@ -53,22 +51,46 @@ fn durable<D: Disk + Drop>(alloc: Global, mut files: Files<D>) -> Result<SeenFil
 }
 
 // A file of this header and a block behind it, and an empty log.
-fn file_of(alloc: Global, header: &[u8; BLOCK_LEN]) -> Result<(Memory, Memory), Fail> {
-    let mut file = Memory::new(alloc);
-    file.write_at(0, header)?;
-    file.write_at(BLOCK_LEN, &[1; BLOCK_LEN])?;
-    Ok((Memory::new(alloc), file))
+fn file_of(alloc: Global, header: &[u8; BLOCK_LEN]) -> Result<Files<Memory>, Fail> {
+    let mut db = Memory::new(alloc);
+    db.write_at(0, header)?;
+    db.write_at(BLOCK_LEN, &[1; BLOCK_LEN])?;
+    Ok(Files {
+        log: Memory::new(alloc),
+        db,
+    })
 }
 
-// What recovering gives.
+// The same file beside a log that has a commit of each of these headers, of which none was copied.
+fn left_with(
+    alloc: Global,
+    header: &[u8; BLOCK_LEN],
+    headers: &[[u8; BLOCK_LEN]],
+) -> Result<Files<Memory>, Fail> {
+    let files = durable(alloc, file_of(alloc, header)?)?;
+    let Ok(mut file) = open(alloc, files, options()) else {
+        return Err("a file of two blocks".into());
+    };
+    for block in headers {
+        let edit = BlockEdit {
+            place: 0,
+            block: *block,
+        };
+        if !file.is_ready() || file.commit(&[edit]).is_err() {
+            return Err("a commit".into());
+        }
+    }
+    Ok(file.close())
+}
+
+// What recovering such a file gives, in whatever state it is.
 fn recovered(
     alloc: Global,
     header: &[u8; BLOCK_LEN],
-    expected: Expected,
+    headers: &[[u8; BLOCK_LEN]],
 ) -> Result<Result<(), FilesFault>, Fail> {
-    let (log, db) = file_of(alloc, header)?;
-    let files = durable(alloc, Files { log, db })?;
-    let (found, _) = recover_files(alloc, files, options(), expected);
+    let files = durable(alloc, left_with(alloc, header, headers)?)?;
+    let (found, _) = recover_files(alloc, files, options(), Expected::Own);
     Ok(found)
 }
 
@@ -105,10 +127,10 @@ impl Changer for Nines {
 fn changed(
     alloc: Global,
     header: &[u8; BLOCK_LEN],
+    headers: &[[u8; BLOCK_LEN]],
     expected: Expected,
 ) -> Result<(bool, u8), Fail> {
-    let (log, db) = file_of(alloc, header)?;
-    let files = durable(alloc, Files { log, db })?;
+    let files = durable(alloc, left_with(alloc, header, headers)?)?;
     let (made, files) = change_files(alloc, files, options(), expected, &Nines);
     let Some(byte) = files.db.bytes().get(BLOCK_LEN) else {
         return Err("two blocks".into());
@@ -118,19 +140,21 @@ fn changed(
 
 #[test]
 fn another_files_log_is_refused(rt: HostRuntime) -> Result<(), Fail> {
-    let block = header(STAMP, 4);
-    assert!(rt; recovered(rt.alloc(), &block, Expected::Own(Some(5)))?.is_ok());
-    assert!(rt; recovered(rt.alloc(), &block, Expected::Own(Some(4)))?.is_ok());
-    assert!(rt; recovered(rt.alloc(), &block, Expected::Own(None))?.is_ok());
+    let log = [header(5, 4)];
+    for own in [header(4, 3), header(5, 4), [0; BLOCK_LEN]] {
+        assert!(rt; recovered(rt.alloc(), &own, &log)?.is_ok());
+    }
     assert!(rt;
         matches!(
-            recovered(rt.alloc(), &block, Expected::Own(Some(6)))?,
+            recovered(rt.alloc(), &header(6, 5), &log)?,
             Err(FilesFault::OthersLog)
         )
     );
+    let mut damaged = header(5, 4);
+    damaged[BLOCK_LEN - 1] ^= 1;
     assert!(rt;
         matches!(
-            recovered(rt.alloc(), &[0; BLOCK_LEN], Expected::Own(Some(5)))?,
+            recovered(rt.alloc(), &header(4, 3), &[damaged])?,
             Err(FilesFault::Header(_))
         )
     );
@@ -138,19 +162,38 @@ fn another_files_log_is_refused(rt: HostRuntime) -> Result<(), Fail> {
 }
 
 #[test]
+fn a_log_of_several_commits_is_the_files_own(rt: HostRuntime) -> Result<(), Fail> {
+    let log = [header(5, 4), header(6, 5), header(7, 6)];
+    for stamp in 4..8 {
+        assert!(rt; recovered(rt.alloc(), &header(stamp, 3), &log)?.is_ok());
+    }
+    let gap = [header(5, 4), header(7, 6)];
+    for (stamp, log) in [(3, &log[..]), (8, &log[..]), (4, &gap[..]), (5, &gap[..])] {
+        assert!(rt;
+            matches!(
+                recovered(rt.alloc(), &header(stamp, 2), log)?,
+                Err(FilesFault::OthersLog)
+            )
+        );
+    }
+    Ok(())
+}
+
+#[test]
 fn just_the_own_file_is_changed(rt: HostRuntime) -> Result<(), Fail> {
-    let block = header(STAMP, 4);
+    let log = [header(5, 4)];
+    let (own, other) = (header(4, 3), header(6, 5));
+    assert_eq!(rt; changed(rt.alloc(), &own, &log, Expected::Own)?, (true, 9));
     assert_eq!(rt;
-        changed(rt.alloc(), &block, Expected::Own(Some(5)))?,
+        changed(rt.alloc(), &other, &log, Expected::Own)?,
+        (false, 1)
+    );
+    assert_eq!(rt;
+        changed(rt.alloc(), &own, &log, Expected::Stamp(5))?,
         (true, 9)
     );
     assert_eq!(rt;
-        changed(rt.alloc(), &block, Expected::Own(Some(6)))?,
-        (false, 1)
-    );
-    assert_eq!(rt; changed(rt.alloc(), &block, Expected::Stamp(5))?, (true, 9));
-    assert_eq!(rt;
-        changed(rt.alloc(), &block, Expected::Stamp(4))?,
+        changed(rt.alloc(), &own, &log, Expected::Stamp(4))?,
         (false, 1)
     );
     Ok(())

@@ -10,6 +10,7 @@ pub use differing::Differing;
 pub use differing_fault::DifferingFault;
 pub use edits::{Edits, block_in, no_edits, put_block};
 pub use exh_direct::{Blocks, DirectFault};
+pub use exh_format::{MAGIC, PLACED_NUMBER};
 pub use finding::find_placed;
 pub use home::Home;
 pub use homing::find_home;

@@ -3,7 +3,7 @@ ghost use Rattle.std.specs.Prelude.{◌≡◌, IfErr, IfOk, OnOk};
 ghost use Rattle.exh_everyday.specs.Founds.{AreFoundIn, AreOfFile, AreOfKeys, IsFaultOf, IsFoundOne, IsOfFile};
 
 use crate::found::Found;
-use crate::open_file::{OpenFile, SystemFile};
+use crate::open_file::{MemoryFile, OpenFile, SystemFile};
 use crate::wanted::Wanted;
 use exh_direct::DirectFault;
 use exh_page::{Key, Value};
@@ -108,6 +108,11 @@ impl<W: Wanted> Reading for KeysReading<'_, W> {
             reason: self.reason,
         };
         found_in(self.alloc, &file, self.keys)
+    }
+
+    fn read_bytes(&mut self, bytes: &[u8]) -> Result<Found, DirectFault> {
+        self.reason.set(None);
+        found_in(self.alloc, &MemoryFile { bytes }, self.keys)
     }
 }
 

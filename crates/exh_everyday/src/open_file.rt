@@ -1,9 +1,9 @@
 //! Open page files, of which blocks are read for each key anew.
-ghost use Rattle.std.specs.Prelude.{◌≡◌, ℕ, List, Option, None, IfErr, IfOk};
+ghost use Rattle.std.specs.Prelude.{◌≡◌, ℕ, List, Option, None, Some, IfErr, IfOk};
 ghost use Rattle.exh_direct.specs.declared.direct_fault.DirectFault.TheVariants.{Read};
 
 use exh_direct::{Blocks, DirectFault};
-use exh_transfer::{FileBlocks, Reason, with_reason};
+use exh_transfer::{BytesBlocks, FileBlocks, Reason, with_reason};
 use std::fs::File;
 
 /// An open page file, whose bytes stay the same meanwhile.
@@ -40,5 +40,21 @@ impl<'f> OpenFile for SystemFile<'f> {
             Ok(blocks) => Ok(blocks),
             Err(_) => Err(DirectFault::Read),
         }
+    }
+}
+
+/// The bytes of a page file in memory.
+#[derive(Clone, Copy)]
+pub(crate) struct MemoryFile<'b> {
+    pub(crate) bytes: &'b [u8],
+}
+
+impl<'b> OpenFile for MemoryFile<'b> {
+    type Own = BytesBlocks<'b>;
+
+    ghost known = { λ file. Some file.bytes.now };
+
+    fn blocks(&self) -> Result<BytesBlocks<'b>, DirectFault> {
+        Ok(BytesBlocks::new(self.bytes))
     }
 }

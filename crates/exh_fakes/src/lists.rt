@@ -1,8 +1,8 @@
 //! The steps of stories of one caller.
 
 use crate::live_step::LiveStep::{
-    self, Call, Carried, Closed, Held, Idle, Kept, KeptIn, Named, Often, Refilled, Refused, Stale,
-    Tell, Within,
+    self, Anew, Call, Carried, Closed, Held, Idle, Kept, KeptIn, Named, Often, Refilled, Refused,
+    Stale, Tell, Within,
 };
 use exh_fixtures::Said::{self, Absent, Is, New, Was};
 
@@ -133,6 +133,88 @@ pub static FOUR_WARDS: [LiveStep; 29] = [
     Named(b"\x18", 0),
     Named(b"\x68", 0),
     Named(b"\xf8", 0),
+    Carried(0),
+];
+
+/// Two puts in each of sixteen wards, of which the second takes one split where a page has one record.
+pub static TWO_KEYS_EACH: [LiveStep; 32] = [
+    Call(New(b"\0", b"a")),
+    Call(New(b"\x08", b"b")),
+    Call(New(b"\x10", b"a")),
+    Call(New(b"\x18", b"b")),
+    Call(New(b"\x20", b"a")),
+    Call(New(b"\x28", b"b")),
+    Call(New(b"\x30", b"a")),
+    Call(New(b"\x38", b"b")),
+    Call(New(b"\x40", b"a")),
+    Call(New(b"\x48", b"b")),
+    Call(New(b"\x50", b"a")),
+    Call(New(b"\x58", b"b")),
+    Call(New(b"\x60", b"a")),
+    Call(New(b"\x68", b"b")),
+    Call(New(b"\x70", b"a")),
+    Call(New(b"\x78", b"b")),
+    Call(New(b"\x80", b"a")),
+    Call(New(b"\x88", b"b")),
+    Call(New(b"\x90", b"a")),
+    Call(New(b"\x98", b"b")),
+    Call(New(b"\xa0", b"a")),
+    Call(New(b"\xa8", b"b")),
+    Call(New(b"\xb0", b"a")),
+    Call(New(b"\xb8", b"b")),
+    Call(New(b"\xc0", b"a")),
+    Call(New(b"\xc8", b"b")),
+    Call(New(b"\xd0", b"a")),
+    Call(New(b"\xd8", b"b")),
+    Call(New(b"\xe0", b"a")),
+    Call(New(b"\xe8", b"b")),
+    Call(New(b"\xf0", b"a")),
+    Call(New(b"\xf8", b"b")),
+];
+
+// The second key of each of these.
+const SECOND_KEYS: [&[u8]; 16] = [
+    b"\x08", b"\x18", b"\x28", b"\x38", b"\x48", b"\x58", b"\x68", b"\x78", b"\x88", b"\x98",
+    b"\xa8", b"\xb8", b"\xc8", b"\xd8", b"\xe8", b"\xf8",
+];
+
+/// After those keys a round carries the notice of each of the sixteen wards, and the copy names the right page in each; so
+/// does another copy, to which a round carries them too.
+pub static SIXTEEN_WARDS: [LiveStep; 35] = [
+    Carried(16),
+    Named(b"\x08", 1),
+    Named(b"\x18", 1),
+    Named(b"\x28", 1),
+    Named(b"\x38", 1),
+    Named(b"\x48", 1),
+    Named(b"\x58", 1),
+    Named(b"\x68", 1),
+    Named(b"\x78", 1),
+    Named(b"\x88", 1),
+    Named(b"\x98", 1),
+    Named(b"\xa8", 1),
+    Named(b"\xb8", 1),
+    Named(b"\xc8", 1),
+    Named(b"\xd8", 1),
+    Named(b"\xe8", 1),
+    Named(b"\xf8", 1),
+    Within(1, Is(b"\x08", b"b")),
+    Within(1, Is(b"\x18", b"b")),
+    Within(1, Is(b"\x28", b"b")),
+    Within(1, Is(b"\x38", b"b")),
+    Within(1, Is(b"\x48", b"b")),
+    Within(1, Is(b"\x58", b"b")),
+    Within(1, Is(b"\x68", b"b")),
+    Within(1, Is(b"\x78", b"b")),
+    Within(1, Is(b"\x88", b"b")),
+    Within(1, Is(b"\x98", b"b")),
+    Within(1, Is(b"\xa8", b"b")),
+    Within(1, Is(b"\xb8", b"b")),
+    Within(1, Is(b"\xc8", b"b")),
+    Within(1, Is(b"\xd8", b"b")),
+    Within(1, Is(b"\xe8", b"b")),
+    Within(1, Is(b"\xf8", b"b")),
+    Anew(16, &SECOND_KEYS, 1),
     Carried(0),
 ];
 

@@ -1,6 +1,7 @@
 //! Steps of a live file, each with what it comes to.
 ghost use Rattle.std.specs.Prelude.{◌≡◌, ◌^◌, ◌≤◌, length, IfOk};
 ghost use Rattle.std.specs.FinMap as map;
+ghost use Rattle.exh_copy.specs.Additions.{AreOf};
 ghost use Rattle.exh_prefix.specs.declared.prefix.TheConstants.{WARD_BITS_LIMIT};
 
 use crate::lists::{EMPTIED, FILLED};
@@ -50,6 +51,9 @@ pub enum LiveStep {
     Refused(u8),
     /// A told look for a key names this page.
     Named(&'static [u8], PageNo),
+    /// A courier's round to another copy, which is new, takes so many notices; told looks at that copy for these keys
+    /// name this page then.
+    Anew(u64, &'static [&'static [u8]], PageNo),
 }
 
 // More bytes than any memory has. Who refuses growths on asking takes a growth of these and n more as asked to refuse
@@ -172,6 +176,9 @@ fn take<R: Wait, F: Identity, S: Start>(
         }
         LiveStep::Refused(growth) => is_refused(rt, run.alloc, file, writer, cursors, *growth),
         LiveStep::Named(key, page) => is_named(writer, &mut caller.copy, key, *page),
+        LiveStep::Anew(notices, keys, page) => {
+            is_carried_anew::<R, F, S>(rt, run.alloc, file, ward_bits, *notices, keys, *page)
+        }
     }
 }
 
@@ -369,4 +376,54 @@ fn is_named<S: Start>(
         copy.look(PlainKeyer.pseudo(key)) == Some(page),
         Part::Pointer,
     )
+}
+
+// Whether a courier's round to a new copy takes so many notices, and told looks at it for these keys then name this page.
+fn is_carried_anew<R: Wait, F: Identity, S: Start>(
+    rt: &R,
+    alloc: Global,
+    file: &PlainFile<F>,
+    ward_bits: u8,
+    notices: u64,
+    keys: &[&[u8]],
+    page: PageNo,
+) -> Result<(), Difference>
+    requires limit { file.now.ward_bits ≤ WARD_BITS_LIMIT }
+    requires bits { ward_bits ≡ file.now.ward_bits }
+    requires copy { S.ward_bits ≡ ward_bits }
+    requires table { S.table ≡ map.empty }
+{
+    let start = Table::new(alloc);
+    let mut cursors = first_cursors(alloc, ward_bits, &start)?;
+    match new_copy::<S>(alloc, ward_bits, &start, 1) {
+        Ok((mut writer, mut readers)) => {
+            let carried = is_carried(rt, file, &mut writer, &mut cursors, notices);
+            let named = are_named(&mut writer, &mut readers, keys, page);
+            drop(writer.close(rt));
+            carried.and(named)
+        }
+        Err(NewCopyFault::Memory) => Err(Difference::Memory(AllocError)),
+        Err(NewCopyFault::NoPlace(writer)) => {
+            drop(writer.close(rt));
+            Err(Difference::Apart(Part::Run))
+        }
+    }
+}
+
+// Whether told looks for these keys, by one of these readers of the copy, name this page.
+fn are_named<S: Start>(
+    writer: &mut Writer<S>,
+    readers: &mut Vec<Reader<S>>,
+    keys: &[&[u8]],
+    page: PageNo,
+) -> Result<(), Difference>
+    requires { AreOf writer.old.name readers.old.items }
+{
+    let Some(mut copy) = readers.pop() else {
+        return Err(Difference::Apart(Part::Run));
+    };
+    'keys: for key in keys {
+        is_named(writer, &mut copy, key, page)?;
+    }
+    Ok(())
 }

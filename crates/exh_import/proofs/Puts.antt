@@ -12,7 +12,7 @@ use Rattle.exh_import.specs.declared.imported_store.Added.TheVariants.{Put, Full
 use Rattle.exh_import.specs.declared.options.ImportOptions.{ImportOptions}
 use Rattle.exh_import.specs.declared.rejection.Rejection.{Rejection}
 use Rattle.exh_import.specs.declared.taking.Taking.{Taking}
-use Rattle.exh_import.specs.Counting.{first_opening, full_counted, is_due, line_counted, lines_begun, more, pair_counted, rejected_counted, rested}
+use Rattle.exh_import.specs.Counting.{ended, first_opening, full_counted, is_due, line_counted, lines_begun, more, pair_counted, rejected_counted, rested}
 use Rattle.exh_import.specs.Imports.{Answered, FinishesWhere, Imports, Point, RestsWhere, SavesWhere, TakesAmid, TakesLine, TakesLines, TakesRead, TakesText}
 use Rattle.exh_import.specs.Pairs.{ArePut, AreSaved, all_but_last, pair_of, pairs_of, pairs_of_text, pairs_of_whole, pairs_put, read_of}
 
@@ -299,8 +299,8 @@ module _ {S L : Type 0} (gives : S → List ℕ → List ℕ → Added → S →
     finished true taking old new imported (is, same) = (0, same)
     finished false taking old new imported (is, saved) = (1, (new, (inl saved, refl)))
 
-    pub imports_put : (lines : List (List ℕ)) (imported : Imported) (store' : S) (listener' : L) → Imports gives saves rests told options lines store listener imported store' listener' → ArePut gives saves rests (pairs_put options lines) store store'
-    imports_put lines imported store' listener' imports =
+    pub imports_put : (whole : Bool) (lines : List (List ℕ)) (imported : Imported) (store' : S) (listener' : L) → Imports gives saves rests told options whole lines store listener imported store' listener' → ArePut gives saves rests (pairs_put options lines) store store'
+    imports_put whole lines imported store' listener' imports =
         subst (λ (pairs : List (List ℕ × List ℕ)). ArePut gives saves rests pairs store store') (append-nil (pairs_put options lines))
         (put_then (pairs_put options lines) [] store imports.next.store store' (put_text options.begun.is_opened options.begun.has_header lines imports.next imports.takes)
-        (finished _ imports.next.taking imports.next.store store' imported imports.finishes))
+        (finished _ (ended whole imports.next.taking) imports.next.store store' imported imports.finishes))

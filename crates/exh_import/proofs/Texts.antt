@@ -1,5 +1,5 @@
 -- The lines of a text, of which a beginning is taken, and what is done of them.
-use Rattle.std.proofs.Common.{◌≡◌, ◌≢◌, ℕ, ◌+◌, ◌<◌, true, false, List, [], ◌∷◌, ◌++◌, length, drop, Option, Some, None, IfSome, Result, Ok, Err, IfOk, inl, inr, refl, sym, ap, ap₂, ◌∙◌, subst, append_assoc, append-nil, arith}
+use Rattle.std.proofs.Common.{◌≡◌, ◌≢◌, ℕ, ◌+◌, ◌<◌, Bool, true, false, List, [], ◌∷◌, ◌++◌, length, drop, Option, Some, None, IfSome, Result, Ok, Err, IfOk, inl, inr, refl, sym, ap, ap₂, ◌∙◌, subst, append_assoc, append-nil, length-append, arith}
 use Rattle.std.specs.Io.KnownBytes.{Consumes, IsAtEnd, Keeps, prepend_known}
 use Rattle.std.proofs.KnownBytes.{Consumes-kept, Consumes-nil, Consumes-trans, Consumes-whole}
 use Rattle.std.proofs.lemmas.List.{length-drop, length_push}
@@ -14,8 +14,8 @@ use Rattle.exh_import.specs.declared.imported_store.Added.{Added}
 use Rattle.exh_import.specs.declared.line_reader.LineReader.{LineReader}
 use Rattle.exh_import.specs.declared.rejection.Rejection.{Rejection}
 use Rattle.exh_import.specs.Causes.{AreWholeLines, IsWholeLine, whole_line, whole_lines}
-use Rattle.exh_import.specs.Imports.{IsTextOf, Point, TakesLine, TakesLines, TakesText}
-use Rattle.exh_import.specs.LineReader.{EndsRight, IsOver, TakesNext, text_left, waiting}
+use Rattle.exh_import.specs.Imports.{EndsSo, IsTextOf, Point, TakesLine, TakesLines, TakesText}
+use Rattle.exh_import.specs.LineReader.{AreTaken, EndsRight, IsOver, TakesNext, TellsWhole, text_left, waiting}
 
 pub if_ok_map : {T E : Type 0} (result : Result T E) (P Q : T → Type 0) → IfOk result P → ((made : T) → P made → Q made) → IfOk result Q
 if_ok_map (Ok made) P Q holds more = more made holds
@@ -40,6 +40,10 @@ lines_more format (first ∷ front) line all one = (all.0, lines_more format fro
 pub whole_more : (front : List (List ℕ)) (line : List ℕ) → whole_lines (front ++ line ∷ []) ≡ whole_lines front ++ whole_line line
 whole_more [] line = append-nil (whole_line line)
 whole_more (first ∷ front) line = ap (λ (rest : List ℕ). whole_line first ++ rest) (whole_more front line) ∙ sym (append_assoc (whole_line first) (whole_lines front) (whole_line line))
+
+-- a last line without a newline isn't one with it
+pub unended : (front line : List ℕ) → front ++ line ≡ front ++ whole_line line → ⊥
+unended front line same = omega (arith, ap length same, length-append front line, length-append front (whole_line line), length-append line (newline ∷ []))
 
 -- a last line that has no newline
 pub last_line : (format : PairFormat) (line : List ℕ) → IsOneLine format line → line ≢ [] → IsTextOf format (line ∷ []) line
@@ -90,10 +94,11 @@ module _ {S L : Type 0} (gives : S → List ℕ → List ℕ → Added → S →
       pub given : Consumes known (text_left remaining lines) (whole_lines front)
       pub takes : TakesLines gives saves rests told front start now
 
-    -- all are
-    pub record IsWhole (now : Point S L) : Type 0 where
+    -- all are, and each has its newline or not
+    pub record IsWhole (whole : Bool) (now : Point S L) : Type 0 where
       pub lines : List (List ℕ)
       pub text : IfSome known (IsTextOf format lines)
+      pub ends : IfSome known (EndsSo whole lines)
       pub takes : TakesText gives saves rests told lines start now
 
     pub amid_start : (lines : LineReader R) → Keeps known (text_left remaining lines) → IsAmid lines start
@@ -103,10 +108,11 @@ module _ {S L : Type 0} (gives : S → List ℕ → List ℕ → Added → S →
     unfolding amid_start
     amid_none lines kept = (amid_start lines kept, refl)
 
-    pub whole_start : (lines : LineReader R) → Keeps known (text_left remaining lines) → EndsRight remaining lines → IsOver lines → IsWhole start
+    pub whole_start : (lines : LineReader R) → Keeps known (text_left remaining lines) → EndsRight remaining lines → IsOver lines → IsWhole true start
     whole_start lines kept ends over = record {
       lines = [];
       text = Consumes-whole known (text_left remaining lines) [] (IsTextOf format []) (Consumes-kept known known (text_left remaining lines) [] (Consumes-nil known) kept) (over_end remaining lines ends over) refl;
+      ends = Consumes-whole known (text_left remaining lines) [] (EndsSo true []) (Consumes-kept known known (text_left remaining lines) [] (Consumes-nil known) kept) (over_end remaining lines ends over) refl;
       takes = inl (refl, refl);
     }
 
@@ -130,18 +136,41 @@ module _ {S L : Type 0} (gives : S → List ℕ → List ℕ → Added → S →
       | inr last ↦ absurd (more last.2)
     ]
 
-    pub whole_step : (old new : LineReader R) (now next : Point S L) → IsAmid old now → TakesNext format remaining old new → EndsRight remaining new → IsOver new → TakesLine gives saves rests told true new.line.items now next → IsWhole next
-    whole_step old new now next amid (one, taken) ends over takes = record {
+    -- the last line
+    whole_text : (old new : LineReader R) (now : Point S L) (amid : IsAmid old now) → TakesNext format remaining old new → EndsRight remaining new → IsOver new → IfSome known (IsTextOf format (amid.front ++ new.line.items ∷ []))
+    whole_text old new now amid (one, taken) ends over = elim taken [
+      | inl given ↦
+          Consumes-whole known (text_left remaining new) (whole_lines amid.front ++ whole_line new.line.items) (IsTextOf format (amid.front ++ new.line.items ∷ []))
+          (Consumes-trans known (text_left remaining old) (text_left remaining new) (whole_lines amid.front) (whole_line new.line.items) amid.given given.1) (over_end remaining new ends over)
+          (subst (IsTextOf format (amid.front ++ new.line.items ∷ [])) (whole_more amid.front new.line.items) (lines_end format (amid.front ++ new.line.items ∷ []) (lines_more format amid.front new.line.items amid.one (one, given.0))))
+      | inr last ↦
+          Consumes-whole known (text_left remaining new) (whole_lines amid.front ++ new.line.items) (IsTextOf format (amid.front ++ new.line.items ∷ []))
+          (Consumes-trans known (text_left remaining old) (text_left remaining new) (whole_lines amid.front) new.line.items amid.given last.0) (over_end remaining new ends over)
+          (lines_behind format amid.front (new.line.items ∷ []) new.line.items amid.one (last_line format new.line.items one last.1))
+    ]
+
+    with_newline : (old new : LineReader R) (now : Point S L) (amid : IsAmid old now) → AreTaken remaining old new (whole_line new.line.items) → EndsRight remaining new → IsOver new → IfSome known (EndsSo true (amid.front ++ new.line.items ∷ []))
+    with_newline old new now amid given ends over =
+        Consumes-whole known (text_left remaining new) (whole_lines amid.front ++ whole_line new.line.items) (EndsSo true (amid.front ++ new.line.items ∷ []))
+        (Consumes-trans known (text_left remaining old) (text_left remaining new) (whole_lines amid.front) (whole_line new.line.items) amid.given given) (over_end remaining new ends over)
+        (sym (whole_more amid.front new.line.items))
+
+    without_newline : (old new : LineReader R) (now : Point S L) (amid : IsAmid old now) → AreTaken remaining old new new.line.items → EndsRight remaining new → IsOver new → IfSome known (EndsSo false (amid.front ++ new.line.items ∷ []))
+    without_newline old new now amid given ends over =
+        Consumes-whole known (text_left remaining new) (whole_lines amid.front ++ new.line.items) (EndsSo false (amid.front ++ new.line.items ∷ []))
+        (Consumes-trans known (text_left remaining old) (text_left remaining new) (whole_lines amid.front) new.line.items amid.given given) (over_end remaining new ends over)
+        (λ same. unended (whole_lines amid.front) new.line.items (same ∙ whole_more amid.front new.line.items))
+
+    whole_ends : (whole : Bool) (old new : LineReader R) (now : Point S L) (amid : IsAmid old now) → TellsWhole whole format remaining old new → EndsRight remaining new → IsOver new → IfSome known (EndsSo whole (amid.front ++ new.line.items ∷ []))
+    whole_ends whole old new now amid tells ends over = elim tells [
+      | inl told ↦ subst (λ (b : Bool). IfSome known (EndsSo b (amid.front ++ new.line.items ∷ []))) (sym told.0) (with_newline old new now amid told.1.1 ends over)
+      | inr told ↦ subst (λ (b : Bool). IfSome known (EndsSo b (amid.front ++ new.line.items ∷ []))) (sym told.0) (without_newline old new now amid told.1.0 ends over)
+    ]
+
+    pub whole_step : (whole : Bool) (old new : LineReader R) (now next : Point S L) → IsAmid old now → TakesNext format remaining old new → TellsWhole whole format remaining old new → EndsRight remaining new → IsOver new → TakesLine gives saves rests told true new.line.items now next → IsWhole whole next
+    whole_step whole old new now next amid taken tells ends over takes = record {
       lines = amid.front ++ new.line.items ∷ [];
-      text = elim taken [
-        | inl given ↦
-            Consumes-whole known (text_left remaining new) (whole_lines amid.front ++ whole_line new.line.items) (IsTextOf format (amid.front ++ new.line.items ∷ []))
-            (Consumes-trans known (text_left remaining old) (text_left remaining new) (whole_lines amid.front) (whole_line new.line.items) amid.given given.1) (over_end remaining new ends over)
-            (subst (IsTextOf format (amid.front ++ new.line.items ∷ [])) (whole_more amid.front new.line.items) (lines_end format (amid.front ++ new.line.items ∷ []) (lines_more format amid.front new.line.items amid.one (one, given.0))))
-        | inr last ↦
-            Consumes-whole known (text_left remaining new) (whole_lines amid.front ++ new.line.items) (IsTextOf format (amid.front ++ new.line.items ∷ []))
-            (Consumes-trans known (text_left remaining old) (text_left remaining new) (whole_lines amid.front) new.line.items amid.given last.0) (over_end remaining new ends over)
-            (lines_behind format amid.front (new.line.items ∷ []) new.line.items amid.one (last_line format new.line.items one last.1))
-      ];
+      text = whole_text old new now amid taken ends over;
+      ends = whole_ends whole old new now amid tells ends over;
       takes = inr (amid.front, (new.line.items, (now, (refl, (amid.takes, takes)))));
     }

@@ -76,6 +76,11 @@ closed read taking = record taking { imported = record taking.imported { is_cut_
 
 -- ---- the end
 
+-- the text ended, and each line of it had its newline, or the last one hadn't: then that may be the beginning of a longer one
+abbrev pub ended : Bool → Taking → Taking
+ended true taking = taking
+ended false taking = record taking { imported = record taking.imported { is_cut_off = taking.is_opened || taking.imported.is_cut_off } }
+
 -- a line was rejected, a key is full, or the text is cut off
 abbrev pub is_amiss : Imported → Bool
 is_amiss imported = not (imported.rejected == 0) || (not (imported.full == 0) || imported.is_cut_off)

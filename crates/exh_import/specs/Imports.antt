@@ -1,5 +1,5 @@
 -- What is done of each line of a text, and of all lines.
-use Rattle.std.specs.Prelude.{◌≡◌, ◌≢◌, ◌⊎◌, ℕ, ◌==◌, Bool, true, false, ◌&&◌, List, [], ◌∷◌, ◌++◌, Option, Some, None}
+use Rattle.std.specs.Prelude.{◌≡◌, ◌≢◌, ◌⊎◌, ℕ, ◌==◌, Bool, true, false, ◌&&◌, List, [], ◌∷◌, ◌++◌, Option, Some, None, flat_map}
 use Rattle.exh_text.specs.TextLines.{newline}
 use Rattle.exh_pair_text.specs.declared.line.Line.{Line}
 use Rattle.exh_pair_text.specs.declared.line.Line.TheVariants.{Pair, Empty, Wrong as WrongLine}
@@ -14,13 +14,18 @@ use Rattle.exh_import.specs.declared.options.ImportOptions.{ImportOptions}
 use Rattle.exh_import.specs.declared.rejection.Rejection.{Rejection}
 use Rattle.exh_import.specs.declared.rejection.Rejection.TheVariants.{Wrong, Misplaced, Full}
 use Rattle.exh_import.specs.declared.taking.Taking.{Taking}
-use Rattle.exh_import.specs.Counting.{closed, committed, first_opening, full_counted, is_amiss, is_due, line_counted, opened, pair_counted, rejected_counted, rested, saved, starts}
+use Rattle.exh_import.specs.Counting.{closed, committed, ended, first_opening, full_counted, is_amiss, is_due, line_counted, opened, pair_counted, rejected_counted, rested, saved, starts}
 
 -- The lines of a text: each stands up to the newline that ends it, but for the last, which may lack it where it has a byte.
 abbrev pub IsTextOf : PairFormat → List (List ℕ) → List ℕ → Type 0
 IsTextOf format [] text = text ≡ []
 IsTextOf format (line ∷ lines) text =
     IsOneLine format line × (((rest : List ℕ) × IsEnded format line × (text ≡ line ++ newline ∷ rest) × IsTextOf format lines rest) ⊎ ((text ≡ line) × (line ≢ []) × (lines ≡ [])))
+
+-- each of the lines has its newline, or not all have
+abbrev pub EndsSo : Bool → List (List ℕ) → List ℕ → Type 0
+EndsSo true lines text = text ≡ flat_map (λ line. line ++ newline ∷ []) lines
+EndsSo false lines text = text ≢ flat_map (λ line. line ++ newline ∷ []) lines
 
 -- how far an import is, its store, and its listener
 pub record Point (S L : Type 0) : Type 0 where
@@ -112,9 +117,9 @@ module _ {S L : Type 0} (gives : S → List ℕ → List ℕ → Added → S →
       ((lines ≡ []) × (new ≡ old))
       ⊎ ((front : List (List ℕ)) × ((last : List ℕ) × ((next : Point S L) × ((lines ≡ front ++ last ∷ []) × (TakesLines front old next × TakesLine true last next new)))))
 
-  -- the import of lines
-  pub record Imports (options : ImportOptions) (lines : List (List ℕ)) (store : S) (listener : L) (imported : Imported) (store' : S) (listener' : L) : Type 0 where
+  -- the import of lines, each of which has its newline or not all have
+  pub record Imports (options : ImportOptions) (whole : Bool) (lines : List (List ℕ)) (store : S) (listener : L) (imported : Imported) (store' : S) (listener' : L) : Type 0 where
     pub next : Point S L
     pub takes : TakesText lines (record { taking = starts options; store = store; listener = listener }) next
-    pub finishes : Finishes saves next.taking next.store imported store'
+    pub finishes : Finishes saves (ended whole next.taking) next.store imported store'
     pub listener_is : listener' ≡ next.listener

@@ -1,5 +1,5 @@
 -- The lines of a text that comes from a reader: contracts of private functions.
-use Rattle.std.specs.Prelude.{◌≡◌, ◌≢◌, ◌⊎◌, ℕ, List, [], ◌∷◌, ◌++◌, drop, nat_eq, Option, option_map, IsTrue, if◌then◌else◌}
+use Rattle.std.specs.Prelude.{◌≡◌, ◌≢◌, ◌⊎◌, ℕ, Bool, true, false, List, [], ◌∷◌, ◌++◌, drop, nat_eq, Option, option_map, IsTrue, if◌then◌else◌}
 use Rattle.std.specs.List.{starts_with}
 use Rattle.std.specs.Io.KnownBytes.{Consumes, IsAtEnd, prepend_known}
 use Rattle.exh_stream.specs.Source.{unread}
@@ -55,3 +55,8 @@ IsLineTaken format remaining old new line = IsEnded format line × AreTaken rema
 abbrev pub TakesNext : {R : Type 0} → PairFormat → (R → Option (List ℕ)) → LineReader R → LineReader R → Type 0
 TakesNext format remaining old new =
     IsOneLine format new.line.items × (IsLineTaken format remaining old new new.line.items ⊎ (AreTaken remaining old new new.line.items × (new.line.items ≢ []) × IsOver new))
+
+-- which of the two it was
+abbrev pub TellsWhole : {R : Type 0} → Bool → PairFormat → (R → Option (List ℕ)) → LineReader R → LineReader R → Type 0
+TellsWhole whole format remaining old new =
+    ((whole ≡ true) × IsLineTaken format remaining old new new.line.items) ⊎ ((whole ≡ false) × (AreTaken remaining old new new.line.items × (new.line.items ≢ []) × IsOver new))

@@ -1,9 +1,9 @@
 //! The import of a text, line by line.
-ghost use Rattle.std.specs.Prelude.{◌≡◌, ◌≢◌, ℕ, List, [], IfErr, IfOk, IfSome, IsFalse, IsTrue, OnOk};
+ghost use Rattle.std.specs.Prelude.{◌≡◌, ◌≢◌, ℕ, Bool, List, [], IfErr, IfOk, IfSome, IsFalse, IsTrue, OnOk};
 ghost use Rattle.exh_import.specs.Causes.{IsCause, IsNextCause};
-ghost use Rattle.exh_import.specs.Imports.{Imports, IsTextOf, TakesLine};
+ghost use Rattle.exh_import.specs.Imports.{EndsSo, Imports, IsTextOf, TakesLine};
 ghost use Rattle.exh_import.specs.Pairs.{ArePut, pairs_put};
-ghost use Rattle.exh_import.specs.LineReader.{EndsRight, IsOver, TakesNext, text_left, waiting};
+ghost use Rattle.exh_import.specs.LineReader.{EndsRight, IsOver, TakesNext, TellsWhole, text_left, waiting};
 ghost use Rattle.exh_stream.specs.Source.{SameReader};
 
 use crate::line_reader::LineReader;
@@ -19,7 +19,8 @@ use std::io::Read;
 /// Pairs are committed in batches and at the end, and the store rests before the first put behind a batch's commit; or they
 /// are committed at the end alone where `is_atomic` is asked for, and not at all then where a line was rejected, a key had no
 /// room or the text is cut off. A text that begins with the opening of an export is cut off where its last line isn't the end
-/// with the number of its lines between, empty ones aside; that last line isn't put. An opening or end elsewhere is rejected.
+/// with the number of its lines between, empty ones aside, and with its newline; that last line isn't put. An opening or end
+/// elsewhere is rejected.
 ///
 /// `Read`: the reader failed, now or before. `Memory`: a growth was refused. `LongLine`: a line has more than 65,536 bytes.
 /// `OtherFormat`: the opening names another format. `Endless`: there are more than 2^64 - 1 lines. `Refused`: the store
@@ -33,8 +34,9 @@ pub fn import<R: Read, S: ImportedStore, L: Rejects>(
 ) -> Result<Imported, ImportFault>
     requires ends { EndsRight R.remaining lines.old }
     ensures same_reader { SameReader lines.old.source lines.new.source }
-    ensures imports { IfOk result (λ imported. (texts : List (List ℕ)) × (IfSome (text_left R.remaining lines.old) (IsTextOf options.now.format texts)
-        × Imports S.gives S.saves S.rests L.told options.now texts store.old listener.old imported store.new listener.new)) }
+    ensures imports { IfOk result (λ imported. (texts : List (List ℕ)) × ((whole : Bool) × (IfSome (text_left R.remaining lines.old) (IsTextOf options.now.format texts)
+        × (IfSome (text_left R.remaining lines.old) (EndsSo whole texts)
+        × Imports S.gives S.saves S.rests L.told options.now whole texts store.old listener.old imported store.new listener.new)))) }
 
     // The pairs of the text's lines are put in order, with commits and rests between.
     ensures pairs { IfOk result (λ imported. (texts : List (List ℕ)) × (IfSome (text_left R.remaining lines.old) (IsTextOf options.now.format texts)
@@ -45,14 +47,16 @@ pub fn import<R: Read, S: ImportedStore, L: Rejects>(
 {
     let mut taking = Taking::new(options);
     let mut is_over = lines.is_over()?;
+    let mut has_newline = true;
     'lines: for _line in 0..u64::MAX {
         if is_over {
-            return taking.finish(store);
+            return taking.finish(has_newline, store);
         }
         is_over = take_next(alloc, options.format, lines, &mut taking, store, listener)?;
+        has_newline = lines.is_whole();
     }
     if is_over {
-        taking.finish(store)
+        taking.finish(has_newline, store)
     } else {
         Err(ImportFault::Endless)
     }
@@ -72,6 +76,7 @@ fn take_next<R: Read, S: ImportedStore, L: Rejects>(
     ensures same_reader { SameReader lines.old.source lines.new.source }
     ensures ends { OnOk result (EndsRight R.remaining lines.new) }
     ensures next { OnOk result (TakesNext format R.remaining lines.old lines.new) }
+    ensures whole { OnOk result (TellsWhole lines.new.is_whole format R.remaining lines.old lines.new) }
     ensures over { IfOk result (λ over. IsTrue over → IsOver lines.new) }
     ensures some { IfOk result (λ over. IsFalse over → waiting lines.new ≢ []) }
     ensures taken { IfOk result (λ over. TakesLine S.gives S.saves S.rests L.told over lines.new.line.items

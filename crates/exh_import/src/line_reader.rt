@@ -5,7 +5,7 @@ ghost use Rattle.exh_stream.specs.Source.{ReadsFrom, SameReader};
 ghost use Rattle.exh_pair_text.specs.declared.place.Place.TheVariants.{Quoted};
 ghost use Rattle.exh_text.specs.TextLines.{newline};
 ghost use Rattle.exh_import.specs.Causes.{IsLineCause, IsReadCause};
-ghost use Rattle.exh_import.specs.LineReader.{AreTaken, EndsRight, IsOver, TakesNext, mark_len, text_left, unmarked, waiting};
+ghost use Rattle.exh_import.specs.LineReader.{AreTaken, EndsRight, IsOver, TakesNext, TellsWhole, mark_len, text_left, unmarked, waiting};
 
 use crate::ImportFault;
 use exh_pair_text::{PairFormat, Place};
@@ -30,6 +30,8 @@ pub struct LineReader<'r, R: Read> {
     // The reader is at its end.
     ended: bool,
     line: Vec<u8>,
+    // The line that was taken last has its newline.
+    is_whole: bool,
 }
 
 impl<'r, R: Read> LineReader<'r, R> {
@@ -46,6 +48,7 @@ impl<'r, R: Read> LineReader<'r, R> {
             at: 0,
             ended: false,
             line: Vec::new(alloc),
+            is_whole: true,
         }
     }
 
@@ -71,6 +74,13 @@ impl<'r, R: Read> LineReader<'r, R> {
         &self.line
     }
 
+    // Whether the line that was taken last has its newline.
+    pub(crate) fn is_whole(&self) -> bool
+        ensures { result ≡ self.now.is_whole }
+    {
+        self.is_whole
+    }
+
     // Takes the next line, which has this number, where something of the text is left.
     pub(crate) fn next_line(&mut self, format: PairFormat, number: u64) -> Result<(), ImportFault>
         requires ends { EndsRight R.remaining self.old }
@@ -78,15 +88,18 @@ impl<'r, R: Read> LineReader<'r, R> {
         ensures same_reader { SameReader self.old.source self.new.source }
         ensures ends { OnOk result (EndsRight R.remaining self.new) }
         ensures next { OnOk result (TakesNext format R.remaining self.old self.new) }
+        ensures whole { OnOk result (TellsWhole self.new.is_whole format R.remaining self.old self.new) }
         ensures cause { IfErr result (IsLineCause format R.remaining number self.old self.new) }
     {
         self.line.clear();
         let mut place = Place::Start;
         'bytes: for _byte in 0..LINE_LIMIT + 1 {
             let Some(byte) = self.next_byte()? else {
+                self.is_whole = false;
                 return Ok(());
             };
             if ends_line(place, byte) {
+                self.is_whole = true;
                 return Ok(());
             }
             push_byte(&mut self.line, byte)?;
@@ -122,6 +135,7 @@ impl<'r, R: Read> LineReader<'r, R> {
         ensures none { IfOk result (λ over. IsTrue over → waiting self.old ≡ []) }
         ensures stays { OnOk result (IsOver self.old → IsOver self.new) }
         ensures line { self.new.line ≡ self.old.line }
+        ensures whole { self.new.is_whole ≡ self.old.is_whole }
         ensures cause { IfErr result (IsReadCause self.new) }
     {
         if self.at >= self.block.len() && !self.ended {
@@ -151,6 +165,7 @@ impl<'r, R: Read> LineReader<'r, R> {
         ensures start { OnOk result (self.new.at ≡ 0) }
         ensures full { OnOk result (IsFalse self.new.ended → length self.new.block.items ≡ BLOCK) }
         ensures line { self.new.line ≡ self.old.line }
+        ensures whole { self.new.is_whole ≡ self.old.is_whole }
         ensures cause { IfErr result (IsReadCause self.new) }
     {
         let mut bytes = [0; BLOCK];

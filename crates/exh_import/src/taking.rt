@@ -1,7 +1,7 @@
 //! What is done of each line of a text.
 ghost use Rattle.std.specs.Prelude.{◌≡◌, ◌≢◌, ◌+◌, IfErr, IfOk, OnOk};
 ghost use Rattle.exh_import.specs.Causes.{IsStoreCause, IsTakeCause};
-ghost use Rattle.exh_import.specs.Counting.{closed, first_opening, is_amiss, is_right_end, opened, rejected_counted, rested, saved, starts, told_lines};
+ghost use Rattle.exh_import.specs.Counting.{closed, ended, first_opening, is_amiss, is_right_end, opened, rejected_counted, rested, saved, starts, told_lines};
 ghost use Rattle.exh_import.specs.Imports.{Finishes, Puts, RestsWhere, SavesBatch, TakesAmid, TakesLine};
 ghost use Rattle.exh_import.specs.declared.import_fault.ImportFault.TheVariants.{OtherFormat};
 
@@ -201,20 +201,32 @@ impl<'n> Taking<'n> {
         listener.reject(self.imported.lines, cause, line);
     }
 
-    // Ends an import: commits what isn't, or leaves all that was put uncommitted where all or none is to be.
+    // Ends an import of a text of which each line has its newline, or the last one hasn't: commits what isn't, or leaves all
+    // that was put uncommitted where all or none is to be.
     pub(crate) fn finish<S: ImportedStore>(
         &mut self,
+        is_whole: bool,
         store: &mut S,
     ) -> Result<Imported, ImportFault>
         ensures cause { IfErr result (IsStoreCause S.refused store.new) }
-        ensures finished { IfOk result (λ imported. Finishes S.saves self.old store.old imported store.new) }
+        ensures finished { IfOk result (λ imported. Finishes S.saves (ended is_whole self.old) store.old imported store.new) }
     {
+        self.see_end(is_whole);
         if self.options.is_atomic && self.is_amiss() {
             return Ok(self.imported);
         }
         self.save(store)?;
         self.imported.is_committed = true;
         Ok(self.imported)
+    }
+
+    // Takes an export to be cut off whose last line hasn't its newline: it may be the beginning of a longer one.
+    fn see_end(&mut self, is_whole: bool)
+        ensures { self.new ≡ ended is_whole self.old }
+    {
+        if !is_whole {
+            self.imported.is_cut_off = self.is_opened || self.imported.is_cut_off;
+        }
     }
 
     // Whether something of the text wasn't put.

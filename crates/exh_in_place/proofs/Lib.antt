@@ -1,2 +1,3 @@
 pub mod FreshFiles
+pub mod MemoryLemmas
 pub mod RefusalLemmas

@@ -34,3 +34,5 @@ pub use Rattle.exh_paged.specs.PlacedLaws
 pub mod SystemFiles
 -- what a refusal tells of a file
 pub mod Refusals
+-- a page file in memory that has what its log had
+pub mod InMemory

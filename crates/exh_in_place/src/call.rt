@@ -1,6 +1,7 @@
 //! Operations that a page file of the system answers in place.
 
 use crate::Refused;
+use crate::cutting::cut_unsaved;
 use crate::locked::{Locked, begin, locked_at};
 use crate::system_files::{close, opened_locked};
 use exh_calls::{Call, Reply};
@@ -59,10 +60,13 @@ fn answer_locked<O: Operation>(
         rt.alloc(),
         files,
         it.options,
-        Expected::Own(it.own),
+        Expected::Own,
         operation,
         it.stamp,
     );
-    close(rt, whole, answer.is_ok(), files);
-    Ok(answer?)
+    close(rt, &locked.file, whole, answer.is_ok(), files);
+    match answer {
+        Ok(answer) => Ok(answer),
+        Err(fault) => Err(cut_unsaved(rt, whole, &locked.file, Refused::from(fault))),
+    }
 }

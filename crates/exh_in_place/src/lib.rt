@@ -1,6 +1,7 @@
 //! Page files of version 3 changed in place under the writers' lock, and read while others change them.
 #![tactic(auto)]
 
+pub use bytes_blocks::BytesBlocks;
 pub use call::{change_at, put_at};
 pub use exh_paged::{
     Answered, Blocks, CHANGER, Draft, DraftFault, Expected, FileFault, FileForm, FileStore,
@@ -12,22 +13,28 @@ pub use exh_paged::{
 pub use exh_system::{
     AboveLimit, DirectFault, DiskFault, FileBlocks, INPUT, InPlaceFault, NAME_LIMIT, OpenedFile,
     PageLog, Reason, ReasonReader, SystemDisk, SystemFile, WAIT, above_limit, draw_stamp,
-    file_size_limit, front_of, is_at, is_name_of_log, lock_soon, look_at, open_above, open_regular,
-    pause_after, save_at, tell_reason, with_reason,
+    file_size_limit, front_of, is_at, is_name_beside, lock_soon, look_at, open_above, open_regular,
+    pause_after, save_at, see_room_for_copy, share_soon, tell_reason, with_reason,
 };
+pub use in_memory::InMemory;
 pub use laws::legal_files_are_whole;
 pub use one_state::{Reading, read_one_state};
-pub use recovery::{recover_at, settle_before};
+pub use recovery::recover_at;
 pub use refused::Refused;
 pub use saving::{answer_in_place, save_in_place};
+pub use standing::{Standing, stand_still};
 pub use stillness::hold_still;
 
+mod bytes_blocks;
 mod call;
+mod cutting;
+mod in_memory;
 mod laws;
 mod locked;
 mod one_state;
 mod recovery;
 mod refused;
 mod saving;
+mod standing;
 mod stillness;
 mod system_files;

@@ -1,8 +1,10 @@
 //! Page files of the system that are locked to be changed.
 
 use crate::Refused;
-use crate::system_files::{options, own_stamp};
-use exh_system::{InPlaceFault, draw_stamp, front_of, is_at, lock_soon, open_regular, see_fit};
+use crate::system_files::options;
+use exh_system::{
+    InPlaceFault, draw_stamp, front_of, is_at, lock_soon, open_regular, see_fit, see_room,
+};
 use sqlite_pager::Options;
 use std::fs;
 use std::fs::File;
@@ -10,6 +12,9 @@ use std::path::PathBuf;
 
 // How often a path is opened anew to which another file came before it was locked.
 const TRIES: u32 = 100;
+
+// The most blocks that a call writes. Twenty splits make twenty pages and change one, two walk blocks more, and the header.
+const CALL_BLOCKS: u32 = 32;
 
 /// The page file of a path, locked, and the path without links.
 #[derive(Drop)]
@@ -22,8 +27,6 @@ pub(crate) struct Locked {
 #[derive(Drop)]
 pub(crate) struct Begun {
     pub(crate) options: Options,
-    /// The stamp of the file without its log, `None` where its header is damaged.
-    pub(crate) own: Option<u64>,
     /// The new one, which was drawn.
     pub(crate) stamp: u64,
 }
@@ -73,12 +76,8 @@ pub(crate) fn lock_again(
 /// What a change of a locked page file begins with, if that is fit to be changed in place.
 pub(crate) fn begin(rt: &HostRuntime, locked: &Locked) -> Result<Begun, Refused> {
     see_fit(rt, &locked.file, locked.whole.as_str())?;
-    let own = own_stamp(&locked.file)?;
+    see_room(rt, &locked.file, locked.whole.as_str(), CALL_BLOCKS)?;
     let stamp = draw_stamp(rt)?;
     let options = options(rt)?;
-    Ok(Begun {
-        options,
-        own,
-        stamp,
-    })
+    Ok(Begun { options, stamp })
 }

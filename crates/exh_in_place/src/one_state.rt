@@ -1,7 +1,8 @@
 //! Reading without a lock: what is read is one state of a file, or it is read again.
 ghost use Rattle.std.specs.Prelude.{IfOk};
 
-use crate::{Refused, recover_at};
+use crate::Refused;
+use crate::standing::recover_left;
 use exh_system::{Begun, InPlaceFault, begin_reading, open_regular, pause_after};
 use std::fs::File;
 use std::thread::sleep;
@@ -21,11 +22,16 @@ pub trait Reading {
     /// Reads it.
     fn read(&mut self, file: &File) -> Self::Found
         ensures { gives result };
+
+    /// Reads the bytes of a page file in memory in its place.
+    fn read_bytes(&mut self, bytes: &[u8]) -> Self::Found
+        ensures { gives result };
 }
 
 /// Reads the file of a path so that all that is read is one state of it: where it is of version 3, its stamp is looked at
 /// and then its log looked for, before and, in the other order, behind the reading. Else it is read again: once at once, and
-/// for so many seconds. A change that was cut off is recovered, if nobody is at work on the file.
+/// for so many seconds. A change that was cut off is recovered, if nobody is at work on the file; where it can't be copied into
+/// the file, for want of room or permission, the file is read with its log in memory.
 ///
 /// `System`: the file isn't opened, as one that isn't regular, or the system doesn't say what is there. `Restless`: it was
 /// changed all the while. Others: what was cut off isn't recovered.
@@ -50,7 +56,9 @@ pub fn read_one_state<R: Reading>(
             }
             Begun::Unsettled => {}
         }
-        recover_left(rt, path, file)?;
+        if let Some(found) = recover_left(rt, path, file)? {
+            return Ok(reading.read_bytes(found.bytes()));
+        }
         let passed = start.elapsed(rt)?;
         if turn > 0 && passed >= Duration::from_secs(seconds) {
             break;
@@ -65,12 +73,4 @@ pub fn read_one_state<R: Reading>(
 // How often a file is read at most: twice, and again behind each pause that fits into so many seconds.
 fn turns_within(seconds: u64) -> u64 {
     seconds.saturating_mul(PAUSES).saturating_add(2)
-}
-
-// Recovers the file of a path, where nobody has its writers' lock.
-fn recover_left(rt: &HostRuntime, path: &str, file: File) -> Result<(), Refused> {
-    match file.try_lock() {
-        Ok(()) => recover_at(rt, path, &file),
-        Err(_) => Ok(()),
-    }
 }

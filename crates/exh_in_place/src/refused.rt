@@ -79,11 +79,16 @@ impl From<FilesFault> for Refused {
             FilesFault::OthersLog => Refused::Unfit(InPlaceFault::OthersLog),
             FilesFault::NotAsOpened => Refused::Unfit(InPlaceFault::NotAsOpened),
             FilesFault::Header(fault) => Refused::Damaged(DirectFault::File(fault)),
+            FilesFault::Read(Error::OutOfMemory)
+            | FilesFault::Uncopied(Error::OutOfMemory)
+            | FilesFault::Change(ChangeFault::Open(Error::OutOfMemory))
+            | FilesFault::Change(ChangeFault::Commit(CommitFault::NotSaved(Error::OutOfMemory))) =>
+                { Refused::Unfit(InPlaceFault::Memory) }
             FilesFault::Read(error) => Refused::Change(ChangeFault::Open(error)),
             FilesFault::Uncopied(error) => Refused::Unrecovered(error),
             // The file is a list of blocks, so what doesn't fit it is the log.
             FilesFault::Change(ChangeFault::Open(Error::Corrupt)) => {
-                Refused::Unfit(InPlaceFault::OthersLog)
+                Refused::Unfit(InPlaceFault::UnfitLog)
             }
             FilesFault::Change(ChangeFault::Refused(DirectFault::Memory)) => {
                 Refused::Unfit(InPlaceFault::Memory)

@@ -2,6 +2,7 @@
 //! opened.
 
 use crate::Refused;
+use crate::cutting::cut_unsaved;
 use crate::locked::lock_again;
 use crate::system_files::{close, opened_locked, options};
 use exh_calls::Call;
@@ -25,8 +26,11 @@ pub fn save_in_place<P: Pages + Drop>(
     let whole = lock_again(rt, path, file, seconds)?;
     let files = opened_locked(rt, file, whole.as_str(), Wary)?;
     let (saved, files) = save_files(rt.alloc(), files, options(rt)?, stamp, draft);
-    close(rt, whole.as_str(), saved.is_ok(), files);
-    Ok(saved?)
+    close(rt, file, whole.as_str(), saved.is_ok(), files);
+    match saved {
+        Ok(()) => Ok(()),
+        Err(fault) => Err(cut_unsaved(rt, whole.as_str(), file, Refused::from(fault))),
+    }
 }
 
 /// Answers calls by the open file of a path as one change: it must be there still, in the state that has this stamp. It is
@@ -45,6 +49,9 @@ pub fn answer_in_place(
     let new = draw_stamp(rt)?;
     let files = opened_locked(rt, file, whole.as_str(), Wary)?;
     let (answered, files) = answer_over(rt.alloc(), files, options(rt)?, stamp, calls, new);
-    close(rt, whole.as_str(), answered.is_ok(), files);
-    Ok(answered?)
+    close(rt, file, whole.as_str(), answered.is_ok(), files);
+    match answered {
+        Ok(answered) => Ok(answered),
+        Err(fault) => Err(cut_unsaved(rt, whole.as_str(), file, Refused::from(fault))),
+    }
 }

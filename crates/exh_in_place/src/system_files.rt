@@ -4,16 +4,14 @@ ghost use Rattle.sqlite_std_file.specs.File.{file_is_usable, IsFresh};
 ghost use Rattle.exh_in_place.specs.SystemFiles.{IsOnDisk};
 
 use crate::Refused;
-use exh_codec::BLOCK_LEN;
-use exh_paged::{SeenFiles, StampedHeader, see_log};
-use exh_system::{InPlaceFault, PageLog, is_at, lock_soon, open_regular};
+use exh_paged::{SeenFiles, see_log};
+use exh_system::{InPlaceFault, PageLog, is_at, lock_soon, make_log, open_regular};
 use sqlite_disk::Files;
 use sqlite_pager::Options;
 use sqlite_std_file::{FileFrom, OpenError, Start, Wary};
 use std::alloc::Global;
 use std::fs::File;
 use std::hash::{BuildHasher, RandomState};
-use std::os::unix::fs::FileExt;
 use std::{fs, io};
 
 // How many blocks are kept in memory.
@@ -23,16 +21,6 @@ const REMOVAL_SECONDS: u64 = 1;
 
 /// A page file of the system, or its log; of a torn write nothing is supposed.
 pub(crate) type SystemBlocks = FileFrom<Wary>;
-
-/// The stamp of a file without its log, `None` where its header is damaged.
-pub(crate) fn own_stamp(file: &File) -> Result<Option<u64>, Refused> {
-    let mut block = [0; BLOCK_LEN];
-    file.read_exact_at(&mut block, 0)?;
-    match StampedHeader::from_block(&block) {
-        Ok(header) => Ok(Some(header.stamp)),
-        Err(_) => Ok(None),
-    }
-}
 
 // Looks at the log of files that were just opened. Where it is none of exhash both are let go, as they were.
 fn seen<S: Start>(
@@ -71,6 +59,14 @@ fn opened<S: Start>(
     }
 }
 
+// Makes the log of a locked file, where there is none; whether it did.
+fn made(rt: &HostRuntime, file: &File, whole: &str) -> Result<bool, Refused> {
+    match make_log(rt, file, whole) {
+        Ok(is_made) => Ok(is_made),
+        Err(error) => Err(unopened(rt, whole, error)),
+    }
+}
+
 // Why the two aren't opened.
 fn unopened(rt: &HostRuntime, whole: &str, error: io::Error) -> Refused {
     match PageLog::of(rt, whole) {
@@ -93,13 +89,17 @@ pub(crate) fn opened_locked<S: Start>(
     ensures db { IfOk result (λ files. IsTrue (file_is_usable S.Start files.db)) }
     ensures on_disk { IfOk result (λ files. IsOnDisk S.Start files.log × IsOnDisk S.Start files.db) }
 {
+    let is_made = made(rt, file, whole)?;
     let found = opened(rt, whole, start);
-    if is_there(rt, file, whole) {
+    let is_there = is_there(rt, file, whole);
+    // At another file's path a log of this run's goes only under the log's lock, that is where both were opened.
+    if is_made && found.is_ok() != is_there {
+        let _ = remove_unused_log(rt, whole);
+    }
+    if is_there {
         return found;
     }
-    if let Ok(files) = found {
-        close(rt, whole, false, files.into_files());
-    }
+    drop(found);
     remove_empty(rt, whole)?;
     Err(Refused::Unfit(InPlaceFault::NotAsOpened))
 }
@@ -131,25 +131,37 @@ pub(crate) fn options(rt: &HostRuntime) -> Result<Options, Refused> {
     Ok(options)
 }
 
-/// Lets the files go, and removes the log where the file alone has all, or the log has no change. The page file is let go
-/// last, so that nobody opens both before.
+/// Lets the files go, and removes the log where the file alone has all, or the log has no change: under the log's lock, and if
+/// the path still leads to the file that is locked, as behind a renaming another run's log may stand there. The page file is
+/// let go last, so that nobody opens both before.
 pub(crate) fn close<S: Start>(
     rt: &HostRuntime,
+    file: &File,
     whole: &str,
     is_settled: bool,
     files: Files<FileFrom<S>>,
 ) {
     let Files { log, db } = files;
-    drop(log);
     // Where the log isn't removed, as by a folder that doesn't let it be, it stays without a change.
-    let _ = remove_log(rt, whole, is_settled);
+    let _ = remove_log(rt, file, whole, is_settled);
+    drop(log);
     drop(db);
 }
 
-// Removes the log of a file, where the file alone has all, or the log has no change.
-fn remove_log(rt: &HostRuntime, whole: &str, is_settled: bool) -> io::Result<()> {
+// Removes the log of a locked file, where the file alone has all, or the log has no change, if the path leads to the file
+// still: it is asked in the call before.
+fn remove_log(rt: &HostRuntime, file: &File, whole: &str, is_settled: bool) -> io::Result<()> {
     let log = PageLog::of(rt, whole)?;
-    if is_settled || !log.has_change(rt)? {
+    if (is_settled || !log.has_change(rt)?) && is_at(rt, file, whole)? {
+        log.remove(rt)?;
+    }
+    Ok(())
+}
+
+// Removes a log without a change.
+fn remove_unused_log(rt: &HostRuntime, whole: &str) -> io::Result<()> {
+    let log = PageLog::of(rt, whole)?;
+    if !log.has_change(rt)? {
         log.remove(rt)?;
     }
     Ok(())

@@ -39,6 +39,7 @@ mod load_run;
 mod numbered_writer;
 mod open_run;
 mod opened;
+mod replaced_file;
 mod replacing;
 mod saving;
 mod sentence;

@@ -11,7 +11,8 @@ use crate::standard::refuse_unread;
 use crate::watch::reading_meter;
 use crate::{FileWards, Status, Unopened, open_file};
 use exh_map::{
-    OpenedFile, Reason, StoreError, SystemDisk, WAIT, hold_still, open_above, with_reason,
+    InPlaceFault, OpenedFile, Reason, Refused as NotRead, StoreError, SystemDisk, TRIES, WAIT,
+    hold_still, is_replaced, open_above, with_reason,
 };
 use exh_stream::{ClearingWriter, MeteredReader, Output};
 use exh_text::ReasonReader;
@@ -50,17 +51,34 @@ pub fn open_at<'w>(rt: &HostRuntime, path: &'w str) -> Result<Opening<'w>, Statu
     read_opened(rt, path, seen, &reason)
 }
 
-// Opens the file of a path, and asks what it is; or why it isn't opened, which becomes the reason.
+// Opens the file of a path, another one where that replaces it before its lock is free, and asks what it is; or why it isn't
+// opened, which becomes the reason.
 fn seen_at(rt: &HostRuntime, path: &str, reason: &Reason) -> Result<io::Result<OpenedFile>, Status>
     ensures ok { IfOk result (λ opened. IfOk opened (IsNamed path.now)) }
     ensures err { IfErr result (λ status. status ≡ Refused) }
 {
-    match with_reason(open_above(rt, path), reason) {
-        Ok(file) => match SystemDisk::new(rt).seen(path, file) {
-            Ok(seen) => Ok(Ok(seen)),
-            Err(_) => Err(refuse_for_memory(rt)),
-        },
-        Err(error) => Ok(Err(error)),
+    for _ in 0..TRIES {
+        let file = match with_reason(open_above(rt, path), reason) {
+            Ok(file) => file,
+            Err(error) => return Ok(Err(error)),
+        };
+        match is_replaced(rt, path, &file, WAIT) {
+            Ok(true) => {}
+            Ok(false) => return seen_as(rt, path, file),
+            Err(refused) => return Err(refuse_unread(rt, path, refused)),
+        }
+    }
+    Err(refuse_unread(rt, path, NotRead::Unfit(InPlaceFault::Changed)))
+}
+
+// Asks what an open file is.
+fn seen_as(rt: &HostRuntime, path: &str, file: File) -> Result<io::Result<OpenedFile>, Status>
+    ensures ok { IfOk result (λ opened. IfOk opened (IsNamed path.now)) }
+    ensures err { IfErr result (λ status. status ≡ Refused) }
+{
+    match SystemDisk::new(rt).seen(path, file) {
+        Ok(seen) => Ok(Ok(seen)),
+        Err(_) => Err(refuse_for_memory(rt)),
     }
 }
 

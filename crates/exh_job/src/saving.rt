@@ -6,6 +6,7 @@ use crate::drafting::{drafted, drafted_anew};
 use crate::form_saved::form_saved;
 use crate::held_file::HeldFile;
 use crate::job_path::JobPath;
+use crate::replaced_file::lock_replaced;
 use crate::watch::saving_meter;
 use crate::{FileWards, Status, print_out_of_memory};
 use exh_command::PageFileVersion;
@@ -13,7 +14,7 @@ use exh_frames::FileStore;
 use exh_load::{Draft, PlacedForm};
 use exh_map::{
     DiskFault, InPlaceFault, OpenedFile, Refused, SystemDisk, WAIT, above_limit, file_size_limit,
-    is_name_of_log, look_at, save_at, save_in_place, settle_before,
+    is_name_beside, look_at, save_at, save_in_place,
 };
 use exh_stream::Output;
 use std::{fs, io};
@@ -50,7 +51,7 @@ pub fn save_at_path(
     }
     match (drafted(rt, path, form, wards), form, held) {
         (Ok(draft), Some(form), Some(held)) => save_over(rt, path, held, form, draft),
-        (Ok(draft), _, _) => save_draft(rt, path, seen_in(held), draft),
+        (Ok(draft), _, _) => save_draft(rt, path, held, draft),
         (Err(status), _, _) => status,
     }
 }
@@ -131,26 +132,35 @@ fn seen_in<'h>(held: Option<&'h HeldFile<'_>>) -> Option<&'h OpenedFile> {
     }
 }
 
-// Sees that a path isn't where the log of a page file stands, and recovers what is to be replaced there.
-fn see_place(rt: &HostRuntime, path: &str) -> Result<(), Refused> {
-    if is_name_of_log(rt, path)? {
-        return Err(Refused::Unfit(InPlaceFault::LogName));
+// Sees that a path isn't where the log of a page file stands, and locks what is to be replaced there.
+fn lock_place(
+    rt: &HostRuntime,
+    path: &str,
+    held: Option<&HeldFile<'_>>,
+) -> Result<Option<OpenedFile>, Refused> {
+    if is_name_beside(rt, path)? {
+        return Err(Refused::Unfit(InPlaceFault::NameBeside));
     }
-    settle_before(rt, path, WAIT)
+    lock_replaced(rt, path, held)
 }
 
 /// Saves a draft as the file of a path, and on a terminal tells how far that is.
 pub(crate) fn save_draft(
     rt: &HostRuntime,
     path: &str,
-    seen: Option<&OpenedFile>,
+    held: Option<&HeldFile<'_>>,
     draft: Draft<FileStore>,
 ) -> Status
     ensures { (result ≡ Done) ⊎ (result ≡ Ended) }
 {
-    if let Err(refused) = see_place(rt, path) {
-        return refuse_in_place(rt, path, refused);
-    }
+    let locked = match lock_place(rt, path, held) {
+        Ok(locked) => locked,
+        Err(refused) => return refuse_in_place(rt, path, refused),
+    };
+    let seen = match &locked {
+        Some(locked) => Some(locked),
+        None => seen_in(held),
+    };
     let meter = saving_meter(rt);
     let mut disk = SystemDisk::new(rt);
     let (saved, _draft) = save_at(rt.alloc(), &mut disk, path, seen, draft, &meter);

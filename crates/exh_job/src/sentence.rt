@@ -35,3 +35,11 @@ pub(crate) fn tell_refused(rt: &HostRuntime, path: &str, file: &File, reason: &R
         let _ = eprintln!(rt; "exhash: {path}: {cause}");
     }
 }
+
+/// Says why the bytes of a page file in memory are refused.
+pub(crate) fn tell_refused_bytes(rt: &HostRuntime, path: &str, bytes: &[u8]) {
+    let mut reader = bytes;
+    if let Err(fault) = open_form(rt.alloc(), &mut reader) {
+        tell_fault(rt, path, StoreError::of_opening(fault, None));
+    }
+}

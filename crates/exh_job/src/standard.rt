@@ -4,13 +4,16 @@ ghost use Rattle.exh_job.specs.JobPath.{SavesAt};
 ghost use Rattle.exh_job.specs.Opening.{IsNamed};
 ghost use Rattle.exh_job.specs.declared.status.Status.TheVariants.{Refused as Ended};
 
-use crate::sentence::{tell_fault, tell_refused, tell_unopened};
+use crate::sentence::{tell_fault, tell_refused, tell_refused_bytes, tell_unopened};
 use crate::{
     Ending, HeldFile, JobPath, OUT_OF_MEMORY, Status, Topic, UNOPENED, open_at, print_last,
     reading_meter, tell_file, with_reason,
 };
 use exh_command::PageFileVersion;
-use exh_map::{InPlaceFault, Reason, Refused, StoreError, WAIT, hold_still, open_above};
+use exh_map::{
+    InPlaceFault, Reason, Refused, Standing, StoreError, TRIES, WAIT, is_replaced, open_above,
+    stand_still,
+};
 use exh_stream::{ClearingWriter, MeteredReader, Output};
 use exh_text::ReasonReader;
 use std::cell::Cell;
@@ -19,25 +22,51 @@ use std::io;
 
 /// Tells of the file of a path, and on a terminal how far that is. Where it is refused standard error says why, in a sentence.
 pub fn tell_path(rt: &HostRuntime, topic: Topic, path: &str) -> Status {
+    for _ in 0..TRIES {
+        if let Some(status) = tell_there(rt, topic, path) {
+            return status;
+        }
+    }
+    refuse_unread(rt, path, Refused::Unfit(InPlaceFault::Changed))
+}
+
+// Tells of the file that a path leads to; `None` where another one came there before its lock was free.
+fn tell_there(rt: &HostRuntime, topic: Topic, path: &str) -> Option<Status> {
     let reason = Cell::new(None);
     match with_reason(open_above(rt, path), &reason) {
-        Ok(file) => tell_opened(rt, topic, path, file, &reason),
+        Ok(file) => match is_replaced(rt, path, &file, WAIT) {
+            Ok(true) => None,
+            Ok(false) => Some(tell_opened(rt, topic, path, file, &reason)),
+            Err(refused) => Some(refuse_unread(rt, path, refused)),
+        },
         Err(error) => {
             let status = tell_counted(rt, topic, Err(error), &reason);
             tell_unopened(rt, path, &reason);
-            status
+            Some(status)
         }
     }
 }
 
 // Tells of an open file of a path.
 fn tell_opened(rt: &HostRuntime, topic: Topic, path: &str, file: File, reason: &Reason) -> Status {
-    if let Err(refused) = hold_still(rt, path, &file, WAIT) {
-        return refuse_unread(rt, path, refused);
+    match stand_still(rt, path, &file, WAIT) {
+        Ok(Standing::InMemory(found)) => return tell_bytes(rt, topic, path, found.bytes()),
+        Ok(Standing::Whole | Standing::Replaced) => {}
+        Err(refused) => return refuse_unread(rt, path, refused),
     }
     let status = tell_counted(rt, topic, Ok(&file), reason);
     if matches!(status, Status::Refused) {
         tell_refused(rt, path, &file, reason);
+    }
+    status
+}
+
+// Tells of the bytes of a page file in memory.
+fn tell_bytes(rt: &HostRuntime, topic: Topic, path: &str, bytes: &[u8]) -> Status {
+    let mut writer = io::writer(rt);
+    let status = tell_file(rt.alloc(), topic, Ok(bytes), &mut Output::new(&mut writer));
+    if matches!(status, Status::Refused) {
+        tell_refused_bytes(rt, path, bytes);
     }
     status
 }

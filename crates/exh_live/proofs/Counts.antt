@@ -1,5 +1,5 @@
 -- Loops over the items of a list that is used up: how many are left, and what the ones before add up to.
-use Rattle.std.proofs.Common.{◌≡◌, ℕ, suc, ◌+◌, ◌*◌, ◌<◌, ◌≤◌, arith}
+use Rattle.std.proofs.Common.{◌≡◌, ℕ, suc, ◌+◌, ◌<◌, ◌≤◌, arith}
 
 pub none_yet : {done left all len : ℕ} → done ≡ 0 → left ≡ len → all ≡ len → done + left ≡ all
 none_yet done left all = omega arith

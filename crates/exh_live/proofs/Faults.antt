@@ -1,5 +1,5 @@
 -- What follows from why a storm isn't settled.
-use Rattle.std.proofs.Common.{◌≡◌, ℕ, ◌+◌, Bool, List, [], ◌∷◌, ◌++◌, Result, Ok, Err, IfErr, inl, inr, refl, sym, ap, ◌∙◌, subst, arith}
+use Rattle.std.proofs.Common.{◌≡◌, ℕ, ◌+◌, Bool, List, [], ◌∷◌, ◌++◌, Ok, Err, IfErr, inl, inr, sym, ap, ◌∙◌, subst, arith}
 use Rattle.std.specs.Prelude.{◌⊎◌, ◌≢◌}
 use Rattle.std.specs.FinMap as finite
 use Rattle.exh_keyer.specs.Pseudokey.{sha_pseudokey}
@@ -16,7 +16,7 @@ use Rattle.exh_live.specs.declared.courier.TheConstants.{COURIER_CLIENT}
 use Rattle.exh_live.specs.declared.keeper.TheConstants.{KEEPER_CLIENT}
 use Rattle.exh_live.specs.declared.fault.StormFault.{StormFault}
 use Rattle.exh_live.specs.declared.fault.StormFault.TheVariants.{Memory, Page, Held, Mismatch, Seats}
-use Rattle.exh_live.proofs.Outcomes.{AreFrom, OfCaller, OfCourier, OfKeeper, from_first}
+use Rattle.exh_live.proofs.FirstRefusals.{AreFrom, from_first}
 
 -- ---- whose refusal it is
 

@@ -1,6 +1,6 @@
 mod Calls
 mod Faults
-mod Outcomes
+mod FirstRefusals
 mod RoundsOn
 mod Sums
 mod Counts

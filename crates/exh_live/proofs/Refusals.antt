@@ -1,5 +1,5 @@
 -- Refusals of wards behind their locks, and of the walks that end with one.
-use Rattle.std.proofs.Common.{◌≡◌, ℕ, Bool, List, [], ◌∷◌, Result, Ok, Err, Some, None, IfErr, refl, sym, ap, ◌∙◌, subst}
+use Rattle.std.proofs.Common.{◌≡◌, ℕ, Bool, List, [], ◌∷◌, Result, Ok, Err, IfErr, refl, sym, ap, ◌∙◌}
 use Rattle.std.specs.Prelude.{OnErr}
 use Rattle.exh_calls.specs.declared.call.Call.{Call}
 use Rattle.exh_calls.specs.declared.reply.Reply.{Reply}
@@ -34,6 +34,10 @@ pub refused_so : {P K T : Type 0} (failures : P → ℕ) (pseudokey_of : K → L
 refused_so {P} {K} {T} failures pseudokey_of old new (Ok value) sound unchanged counts has = tt
 refused_so {P} {K} {T} failures pseudokey_of old new (Err fault) sound unchanged counts has =
     record { old = old; new = new; sound = sound; unchanged = unchanged; counts = counts_so T (Unit {0}) fault old.failures new.failures counts; store = has.0; counted = has.1 }
+
+-- nothing was done, for want of memory
+pub refused_none : {P K : Type 0} (failures : P → ℕ) (pseudokey_of : K → List ℕ → ℕ) (ward : WardState K) → IsSoundWard pseudokey_of ward → (store : P) × (failures store ≡ ward.failures) → IsSomeWardsFault failures pseudokey_of Memory
+refused_none failures pseudokey_of ward sound has = record { old = ward; new = ward; sound = sound; unchanged = refl; counts = refl; store = has.0; counted = has.1 }
 
 module _ {P K : Type 0} (failures : P → ℕ) (pseudokey_of : K → List ℕ → ℕ) where
   pub hop_refused : (at client : ℕ) (call : Call) (result : Result Hop WardFault) → IfErr result (IsSomeWardsFault failures pseudokey_of) → IsRefusedSo failures pseudokey_of (HopAt at client call result)

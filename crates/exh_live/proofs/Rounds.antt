@@ -1,11 +1,12 @@
 -- Rounds: why sparse pages aren't merged, and notices that are taken one by one and ward by ward.
-use Rattle.std.proofs.Common.{◌≡◌, ℕ, suc, ◌+◌, ◌-◌, ◌*◌, ◌<◌, ◌≤◌, Bool, true, false, cond, List, [], ◌∷◌, ◌++◌, append-nil, append_assoc, map, length, take, drop, get_or, Some, None, Result, Ok, Err, IfOk, inl, inr, refl, sym, ap, ◌∙◌, subst, arith}
+use Rattle.std.proofs.Common.{◌≡◌, ℕ, suc, ◌+◌, ◌*◌, ◌<◌, ◌≤◌, Bool, true, false, cond, List, [], ◌∷◌, ◌++◌, append-nil, append_assoc, map, length, take, drop, get_or, Some, None, Result, Ok, Err, IfOk, inl, inr, refl, sym, ap, ◌∙◌, subst, arith}
 use Rattle.std.proofs.lemmas.Bool.{false≢true}
-use Rattle.std.specs.Prelude.{OnErr}
+use Rattle.std.specs.Prelude.{All, Contains, OnErr, nat_lt}
 use Rattle.std.specs.declared.alloc.AllocError.{AllocError}
 use Rattle.std.proofs.lemmas.List.Sums.{sum_by-append, sum_by-cons}
-use Rattle.std.proofs.lemmas.List.{length-append, length-take, length-take-le, length_push, same_from_push, take_all, take_more, take-append-drop, drop_more, drop_all, map-append}
-use Rattle.std.proofs.lemmas.Option.{slice_get_within}
+use Rattle.std.proofs.lemmas.List.{length-append, length-take, length-take-le, length_push, same_from_push, take_all, take_at, take_more, take-append-drop, drop_more, drop_all, map-append}
+use Rattle.std.proofs.lemmas.List.Elements.{All-append, All-nil, All-contains_itself, All-filter, All-same, All-take, All-weaker}
+use Rattle.std.proofs.lemmas.Option.{slice_get_read, slice_get_within}
 use Rattle.exh_prefix.specs.PrefixListLemmas.{one_there}
 use Rattle.exh_notice.specs.declared.notice.Notice.{Notice}
 use Rattle.exh_copy.specs.Additions.{Additions}
@@ -15,11 +16,11 @@ use Rattle.exh_page.specs.declared.page.Page.TheVariants.{Live, Forward}
 use Rattle.exh_ward.specs.BuddySum.{HasBuddySum, IsBuddySum}
 use Rattle.exh_ward.specs.MergeStep.{IsBuddy, IsMergeStep}
 use Rattle.exh_ward.specs.WardFault.{CountsFailures, MergeRefused}
-use Rattle.exh_ward.specs.WardState.{WardState, IsUnchanged}
+use Rattle.exh_ward.specs.WardState.{WardState, IsSoundWard, IsUnchanged, notices_above}
 use Rattle.exh_ward.specs.declared.ward_fault.WardFault.{WardFault}
 use Rattle.exh_ward.specs.declared.ward_fault.WardFault.TheVariants.{NoPage, NotLive, NotFull, AtLimit, NoBuddy, BuddySplit, TooMany, Worn, Memory, Page}
 use Rattle.exh_live.specs.CursorPlaceLemmas.{one_more}
-use Rattle.exh_live.specs.Rounds.{AreCarried, AreFromTo, AreKeeperTurns, Follows, IsKeeperTurn, IsRefusedRound, IsSomeKeeperTurn, MayRefuseKeeper, NoneFollows, PushesBatch, PushesFromTo, TakesAll, TakesFirst}
+use Rattle.exh_live.specs.Rounds.{AreCarried, AreFromTo, AreKeeperTurns, AreSomeWardsNotices, IsSomeWardsNotice, Follows, IsKeeperTurn, IsRefusedRound, IsSomeKeeperTurn, MayRefuseKeeper, NoneFollows, PushesBatch, PushesFromTo, TakesAll, TakesFirst}
 
 -- ---- keepers
 
@@ -88,6 +89,32 @@ one_turn_more {K} pseudokey_of number page merges now merged (turns, are, count)
 )
 
 -- ---- couriers
+
+module _ {K : Type 0} (pseudokey_of : K → List ℕ → ℕ) where
+  of_ward : (ward : WardState K) → IsSoundWard pseudokey_of ward → (notice : Notice) → Contains ward.notices notice → IsSomeWardsNotice pseudokey_of notice
+  of_ward ward sound notice has =
+      let there = slice_get_read ward.notices (length ward.notices) has.0 notice refl has.1 (sym has.2) in
+      (ward, sound, sym (sound.numbered has.0 notice there).0, has)
+
+  -- what a ward hands out
+  pub handed_out : (ward : WardState K) (cursor : ℕ) (batch : List Notice) → IsSoundWard pseudokey_of ward → batch ≡ take 256 (notices_above cursor ward.notices) → AreSomeWardsNotices pseudokey_of batch
+  handed_out ward cursor batch sound is =
+      let all = All-weaker (Contains ward.notices) (IsSomeWardsNotice pseudokey_of) (of_ward ward sound) ward.notices (All-contains_itself ward.notices) in
+      All-same (IsSomeWardsNotice pseudokey_of) batch (take 256 (notices_above cursor ward.notices)) is
+      (All-take (IsSomeWardsNotice pseudokey_of) 256 (notices_above cursor ward.notices) (All-filter (λ notice. nat_lt cursor notice.index) (IsSomeWardsNotice pseudokey_of) ward.notices all))
+
+  -- and what stands in a cleared list that it was handed into
+  pub handed_into : (ward : WardState K) (cursor : ℕ) (cleared filled batch : List Notice) → IsSoundWard pseudokey_of ward → cleared ≡ [] → filled ≡ cleared ++ take 256 (notices_above cursor ward.notices) → batch ≡ filled → AreSomeWardsNotices pseudokey_of batch
+  handed_into ward cursor cleared filled batch sound empty fills is =
+      handed_out ward cursor batch sound (is ∙ fills ∙ ap (λ first. first ++ take 256 (notices_above cursor ward.notices)) empty)
+
+  -- so are those that are pushed of it
+  pub batch_of_wards : (number count : ℕ) (batch old new : List Notice) (cursor last : ℕ) → AreSomeWardsNotices pseudokey_of batch → PushesBatch number (take count batch) old cursor new last → AreSomeWardsNotices pseudokey_of old → AreSomeWardsNotices pseudokey_of new
+  batch_of_wards number count batch old new cursor last of_batch pushes of_old =
+      let P : Notice → Type 0 = IsSomeWardsNotice pseudokey_of in
+      let front : All P (pushes.0 ++ pushes.1) = All-same P (pushes.0 ++ pushes.1) (take count batch) (sym pushes.2) (All-take P count batch of_batch) in
+      let pushed : All P pushes.0 = All-same P pushes.0 (take (length pushes.0) (pushes.0 ++ pushes.1)) (sym (take_at pushes.0 pushes.1 (length pushes.0) refl)) (All-take P (length pushes.0) (pushes.0 ++ pushes.1) front) in
+      All-same P new (old ++ pushes.0) pushes.4 (All-append P old pushes.0 of_old pushed)
 
 -- a notice more that follows
 pub one_further : (ward cursor : ℕ) (notices : List Notice) (last : ℕ) (notice : Notice) → AreFromTo ward cursor notices last → Follows ward last notice → AreFromTo ward cursor (notices ++ notice ∷ []) notice.index
@@ -211,6 +238,6 @@ none_carried ward [] = (refl, refl)
 none_carried ward (cursor ∷ cursors) = ([], [], cursor, cursors, refl, refl, refl, none_carried (ward + 1) cursors)
 
 -- where no notices were copied
-pub none_copied : {T : Type 0} (copy : Additions) (cursors after : List ℕ) (result : Result T AllocError) → after ≡ cursors → OnErr result (IsRefusedRound copy cursors copy after)
-none_copied copy cursors after (Ok value) same = tt
-none_copied copy cursors after (Err error) same = (same, ([], cursors, none_carried 0 cursors, ([], [], refl, takes_nothing copy)))
+pub none_copied : {T : Type 0} {K : Type 0} (pseudokey_of : K → List ℕ → ℕ) (copy : Additions) (cursors after : List ℕ) (result : Result T AllocError) → after ≡ cursors → OnErr result (IsRefusedRound pseudokey_of copy cursors copy after)
+none_copied pseudokey_of copy cursors after (Ok value) same = tt
+none_copied pseudokey_of copy cursors after (Err error) same = (same, ([], cursors, none_carried 0 cursors, ([], [], refl, takes_nothing copy), All-nil (IsSomeWardsNotice pseudokey_of)))

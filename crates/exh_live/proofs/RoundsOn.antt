@@ -72,8 +72,8 @@ keeper_round_more {K} may pseudokey_of ward done merges passed so_far says true_
   one_more (λ place made. may (place + 1) true × IsKeeperRound {K = K} pseudokey_of ward made) done so_far.0 merges (so_far.0 ++ merges ∷ []) so_far.1 (subst (may (done + 1)) true_is says, round) refl,
 )
 
-pub courier_round_more : (may : ℕ → Bool → Type 0) (done : ℕ) (old between new : Additions) (cursors at lasts : List ℕ) (passed : Bool) → AreCourierRounds may done old cursors between at → may (done + 1) passed → passed ≡ true → IsCourierRound between at new lasts
-    → AreCourierRounds may (done + 1) old cursors new lasts
-courier_round_more may done old between new cursors at lasts passed so_far says true_is round =
+pub courier_round_more : {K : Type 0} (pseudokey_of : K → List ℕ → ℕ) (may : ℕ → Bool → Type 0) (done : ℕ) (old between new : Additions) (cursors at lasts : List ℕ) (passed : Bool) → AreCourierRounds {K = K} pseudokey_of may done old cursors between at → may (done + 1) passed
+    → passed ≡ true → IsCourierRound {K = K} pseudokey_of between at new lasts → AreCourierRounds {K = K} pseudokey_of may (done + 1) old cursors new lasts
+courier_round_more {K} pseudokey_of may done old between new cursors at lasts passed so_far says true_is round =
     let next : suc done ≡ done + 1 = omega arith in
-    subst (λ rounds. AreCourierRounds may rounds old cursors new lasts) next (between, at, so_far, subst (may (done + 1)) true_is says, round)
+    subst (λ rounds. AreCourierRounds {K = K} pseudokey_of may rounds old cursors new lasts) next (between, at, so_far, subst (may (done + 1)) true_is says, round)

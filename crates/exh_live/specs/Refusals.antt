@@ -1,11 +1,11 @@
 -- Why a storm isn't settled.
-use Rattle.std.specs.Prelude.{◌≡◌, ◌⊎◌, ℕ, ◌+◌, ◌*◌, ◌^◌, Bool, List, [], ◌∷◌, ◌++◌, length, map, Result, Ok, Err, IfErr}
+use Rattle.std.specs.Prelude.{◌≡◌, ◌⊎◌, ℕ, ◌+◌, ◌^◌, Bool, List, [], ◌∷◌, ◌++◌, length, map, Option, Some, None, Result, Ok, Err, IfErr}
 use Rattle.std.specs.FinMap as finite
 use Rattle.exh_prefix.specs.Leading.{ward_of}
 use Rattle.exh_keyer.specs.Pseudokey.{sha_pseudokey}
 use Rattle.exh_keyer.specs.declared.sha_keyer.ShaKeyer.{ShaKeyer}
 use Rattle.exh_calls.specs.Diary.{DiaryState}
-use Rattle.exh_calls.specs.Settled.{IsSettled, answer_count}
+use Rattle.exh_calls.specs.Settled.{IsSettled}
 use Rattle.exh_ward.specs.WardState.{WardState}
 use Rattle.exh_ward.specs.declared.ward_fault.WardFault.TheVariants.{Page as OutOfReach}
 use Rattle.exh_live.specs.Closing.{AreInOrder, entries_made, answers_given}
@@ -18,6 +18,7 @@ use Rattle.exh_live.specs.declared.courier.TheConstants.{COURIER_CLIENT}
 use Rattle.exh_live.specs.declared.keeper.TheConstants.{KEEPER_CLIENT}
 use Rattle.exh_live.specs.declared.fault.StormFault.{StormFault}
 use Rattle.exh_live.specs.declared.fault.StormFault.TheVariants.{Memory, Mismatch}
+use Rattle.exh_live.specs.declared.outcomes.Outcomes.{Outcomes}
 
 -- what came of a worker
 abbrev pub Outcome : Type 0
@@ -77,3 +78,30 @@ pub record IsUnsettled (config : StormConfig) : Type 0 where
 -- want of memory, which may come at any point; or the first refusal of the workers; or none was refused, and what they left isn't settled
 abbrev pub IsStormFault : Type 0 → (ℕ → ℕ → Bool → Type 0) → StormConfig → StormFault → Type 0
 IsStormFault counted may config fault = (fault ≡ Memory) ⊎ (IsWorkersFault counted may config fault ⊎ ((fault ≡ Mismatch) × IsUnsettled config))
+
+-- ---- by the outcomes that are handed out
+
+-- the outcomes are those of a storm's workers: of each caller, each keeper and each courier in turn
+pub record AreOfWorkers (counted : Type 0) (may : ℕ → ℕ → Bool → Type 0) (config : StormConfig) (outcomes : Outcomes) : Type 0 where
+  pub of_callers : AreFirst (λ place (outcome : Outcome). IfErr outcome (IsRefusedCaller counted config.ward_bits may config.calls (place + 1))) config.callers outcomes.callers.items
+  pub of_keepers : AreFirst (λ place (outcome : Outcome). IfErr outcome (IsRefusedKeeper counted may config.calls place)) (2 ^ config.ward_bits) outcomes.keepers.items
+  pub of_couriers : AreFirst (λ place (outcome : Outcome). IfErr outcome (IsRefusedCourier may config.calls (place + 1))) config.copies outcomes.couriers.items
+
+-- the first refusal of the callers, then of the keepers, then of the couriers, if there is one
+abbrev pub first_of_workers : Outcomes → Outcome
+first_of_workers outcomes = first_refusal (outcomes.callers.items ++ (outcomes.keepers.items ++ outcomes.couriers.items))
+
+-- why a storm ends unsettled whose workers' first refusal is this, if there is one: for that; else its file couldn't be closed for want of memory, or isn't settled
+abbrev pub IsEndOf : StormConfig → Outcome → StormFault → Type 0
+IsEndOf config (Err first) fault = fault ≡ first
+IsEndOf config (Ok done) fault = (fault ≡ Memory) ⊎ ((fault ≡ Mismatch) × IsUnsettled config)
+
+-- why a storm ends unsettled by the outcomes that it hands out: without any for want of memory alone
+abbrev pub IsFaultBy : Type 0 → (ℕ → ℕ → Bool → Type 0) → StormConfig → Option Outcomes → StormFault → Type 0
+IsFaultBy counted may config None fault = fault ≡ Memory
+IsFaultBy counted may config (Some outcomes) fault = AreOfWorkers counted may config outcomes × IsEndOf config (first_of_workers outcomes) fault
+
+-- a storm that is settled hands out outcomes of which none is a refusal
+abbrev pub AreAllDone : Type 0 → (ℕ → ℕ → Bool → Type 0) → StormConfig → Option Outcomes → Type 0
+AreAllDone counted may config None = ⊥
+AreAllDone counted may config (Some outcomes) = AreOfWorkers counted may config outcomes × (first_of_workers outcomes ≡ Ok tt)

@@ -1,5 +1,5 @@
 -- What the rounds of keepers and couriers come to.
-use Rattle.std.specs.Prelude.{◌≡◌, ◌≢◌, ⊤, ℕ, ◌+◌, ◌*◌, ◌^◌, ◌≤◌, Bool, true, false, ◌&&◌, nat_eq, leb, if◌then◌else◌, List, [], ◌∷◌, ◌++◌, length, slice_get, sum_by, count_by, map, Some}
+use Rattle.std.specs.Prelude.{◌≡◌, ⊤, ℕ, ◌+◌, ◌*◌, ◌^◌, ◌≤◌, Bool, true, false, ◌&&◌, nat_eq, leb, if◌then◌else◌, List, [], ◌∷◌, ◌++◌, length, slice_get, sum_by, count_by, map, Some, All, Contains}
 use Rattle.std.specs.FinMap.{entries}
 use Rattle.exh_prefix.specs.Leading.{ward_of}
 use Rattle.exh_prefix.specs.Prefix.{low_of}
@@ -27,9 +27,9 @@ abbrev pub IsKeeperTurn : {K : Type 0} → WardState K → ℕ → Bool → Ward
 IsKeeperTurn old at true new = AreSparse old at × ((notice : Notice) × IsMergeStep old at notice new)
 IsKeeperTurn old at false new = (new ≡ old) × (AreSparse old at → MergeRefused old at Worn)
 
--- such a turn in the ward of a number; a ward of another number isn't touched
+-- such a turn in the ward of a number
 abbrev pub IsKeeperTurnOf : {K : Type 0} → ℕ → WardState K → ℕ → Bool → WardState K → Type 0
-IsKeeperTurnOf number old at merged new = (old.number ≡ number → IsKeeperTurn old at merged new) × (old.number ≢ number → (merged ≡ false) × (new ≡ old))
+IsKeeperTurnOf number old at merged new = (old.number ≡ number) × IsKeeperTurn old at merged new
 
 -- so in some sound ward
 abbrev pub IsSomeKeeperTurn : {K : Type 0} → (K → List ℕ → ℕ) → ℕ → ℕ → Bool → Type 0
@@ -39,9 +39,9 @@ IsSomeKeeperTurn {K} pseudokey_of number at merged = (old new : WardState K) × 
 abbrev pub AreKeeperTurns : {K : Type 0} → (K → List ℕ → ℕ) → ℕ → ℕ → ℕ → Type 0
 AreKeeperTurns {K} pseudokey_of number pages merges = (turns : List Bool) × AreFirst (IsSomeKeeperTurn {K = K} pseudokey_of number) pages turns × (merges ≡ count_by (λ merged. merged) turns)
 
--- so many pages are the ward's, where it is that of a number; else none
+-- it is the ward of a number, and has so many pages
 abbrev pub HasSoManyPages : {K : Type 0} → ℕ → WardState K → ℕ → Type 0
-HasSoManyPages number ward count = (ward.number ≡ number → count ≡ length ward.pages) × (ward.number ≢ number → count ≡ 0)
+HasSoManyPages number ward count = (ward.number ≡ number) × (count ≡ length ward.pages)
 
 -- so of some sound ward
 abbrev pub HadSoManyPages : {K : Type 0} → (K → List ℕ → ℕ) → ℕ → ℕ → Type 0
@@ -85,6 +85,14 @@ abbrev pub AreFromTo : ℕ → ℕ → List Notice → ℕ → Type 0
 AreFromTo ward cursor [] last = last ≡ cursor
 AreFromTo ward cursor (notice ∷ notices) last = (notice.ward ≡ ward) × (notice.index ≡ cursor + 1) × AreFromTo ward notice.index notices last
 
+-- some sound ward of the notice's number had the notice
+abbrev pub IsSomeWardsNotice : {K : Type 0} → (K → List ℕ → ℕ) → Notice → Type 0
+IsSomeWardsNotice {K} pseudokey_of notice = (ward : WardState K) × IsSoundWard pseudokey_of ward × (ward.number ≡ notice.ward) × Contains ward.notices notice
+
+-- so it is of each of the notices
+abbrev pub AreSomeWardsNotices : {K : Type 0} → (K → List ℕ → ℕ) → List Notice → Type 0
+AreSomeWardsNotices {K} pseudokey_of notices = All (IsSomeWardsNotice {K = K} pseudokey_of) notices
+
 -- such notices ward by ward, from a number on, each ward's from its old cursor to its new one
 abbrev pub AreCarried : ℕ → List ℕ → List Notice → List ℕ → Type 0
 AreCarried ward [] notices new = (notices ≡ []) × (new ≡ [])
@@ -100,9 +108,10 @@ TakesAll old notices new = new ≡ record old { pending = old.pending ++ map Tak
 abbrev pub TakesFirst : Additions → List Notice → Additions → Type 0
 TakesFirst old notices new = (taken rest : List Notice) × (notices ≡ taken ++ rest) × TakesAll old taken new
 
--- a courier's round that was refused: no cursor moved, and a copy took a beginning of such notices of all wards, from its cursors on
-abbrev pub IsRefusedRound : Additions → List ℕ → Additions → List ℕ → Type 0
-IsRefusedRound old cursors new after = (after ≡ cursors) × ((notices : List Notice) × (lasts : List ℕ) × AreCarried 0 cursors notices lasts × TakesFirst old notices new)
+-- a courier's round that was refused: no cursor moved, and a copy took a beginning of such notices of all wards, from its cursors on, each ward's own
+abbrev pub IsRefusedRound : {K : Type 0} → (K → List ℕ → ℕ) → Additions → List ℕ → Additions → List ℕ → Type 0
+IsRefusedRound {K} pseudokey_of old cursors new after =
+    (after ≡ cursors) × ((notices : List Notice) × (lasts : List ℕ) × AreCarried 0 cursors notices lasts × TakesFirst old notices new × AreSomeWardsNotices {K = K} pseudokey_of notices)
 
 -- such notices of a ward were pushed to a list, from a cursor to another
 abbrev pub PushesFromTo : ℕ → List Notice → ℕ → List Notice → ℕ → Type 0

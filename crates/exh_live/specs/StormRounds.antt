@@ -8,7 +8,7 @@ use Rattle.exh_walk.specs.CallerWalk.{ask_fault_number}
 use Rattle.exh_walk.specs.declared.ask_fault.AskFault.{AskFault}
 use Rattle.exh_live.specs.Locked.{IsAsked, IsFirstPage}
 use Rattle.exh_live.specs.CursorPlaceLemmas.{AreFirst}
-use Rattle.exh_live.specs.Rounds.{AreCarried, IsKeeperRound}
+use Rattle.exh_live.specs.Rounds.{AreCarried, AreSomeWardsNotices, IsKeeperRound}
 use Rattle.exh_live.specs.StormCalls.{storm_call}
 use Rattle.exh_live.specs.StormFault.{storm_fault_number}
 use Rattle.exh_live.specs.declared.fault.StormFault.{StormFault}
@@ -46,13 +46,13 @@ IsCourierFault may rounds Seats = ⊥
 abbrev pub AreKeeperRounds : {K : Type 0} → (K → List ℕ → ℕ) → ℕ → (ℕ → Bool → Type 0) → ℕ → Type 0
 AreKeeperRounds {K} pseudokey_of ward may rounds = (made : List ℕ) × AreFirst (λ round merges. may (round + 1) true × IsKeeperRound {K = K} pseudokey_of ward merges) rounds made
 
--- a courier's round: the copy takes notices ward by ward, each ward's from its old cursor to its new one, and all that is pending is published
-abbrev pub IsCourierRound : Additions → List ℕ → Additions → List ℕ → Type 0
-IsCourierRound old cursors new lasts =
-    (notices : List Notice) × AreCarried 0 cursors notices lasts × (new ≡ record old { published = old.published ++ old.pending ++ map Take notices; pending = [] })
+-- a courier's round: the copy takes notices ward by ward, each ward's own from its old cursor to its new one, and all that is pending is published
+abbrev pub IsCourierRound : {K : Type 0} → (K → List ℕ → ℕ) → Additions → List ℕ → Additions → List ℕ → Type 0
+IsCourierRound {K} pseudokey_of old cursors new lasts =
+    (notices : List Notice) × AreCarried 0 cursors notices lasts × (new ≡ record old { published = old.published ++ old.pending ++ map Take notices; pending = [] }) × AreSomeWardsNotices {K = K} pseudokey_of notices
 
 -- so many of them, one after the other, before each of which the gate may say yes at its turn, from 1 on
-abbrev pub AreCourierRounds : (ℕ → Bool → Type 0) → ℕ → Additions → List ℕ → Additions → List ℕ → Type 0
-AreCourierRounds may zero old cursors new lasts = (new ≡ old) × (lasts ≡ cursors)
-AreCourierRounds may (suc rounds) old cursors new lasts =
-    (between : Additions) × (at : List ℕ) × AreCourierRounds may rounds old cursors between at × may (rounds + 1) true × IsCourierRound between at new lasts
+abbrev pub AreCourierRounds : {K : Type 0} → (K → List ℕ → ℕ) → (ℕ → Bool → Type 0) → ℕ → Additions → List ℕ → Additions → List ℕ → Type 0
+AreCourierRounds {K} pseudokey_of may zero old cursors new lasts = (new ≡ old) × (lasts ≡ cursors)
+AreCourierRounds {K} pseudokey_of may (suc rounds) old cursors new lasts =
+    (between : Additions) × (at : List ℕ) × AreCourierRounds {K = K} pseudokey_of may rounds old cursors between at × may (rounds + 1) true × IsCourierRound {K = K} pseudokey_of between at new lasts

@@ -43,7 +43,7 @@ impl<R: Wait, S: Start> Courier<'_, R, S> {
         requires bits { ward_bits ≡ file.now.ward_bits }
         ensures number { self.new.number ≡ self.old.number }
         ensures name { self.new.copy.writer.name ≡ self.old.copy.writer.name }
-        ensures rounds { IfOk result (λ _. (cursors lasts : List ℕ) × AreFirstCursors ward_bits map.empty cursors × AreCourierRounds (G.may gate.now (COURIER_CLIENT + self.old.number)) rounds self.old.copy.writer cursors self.new.copy.writer lasts) }
+        ensures rounds { IfOk result (λ _. (cursors lasts : List ℕ) × AreFirstCursors ward_bits map.empty cursors × AreCourierRounds K.pseudokey_of (G.may gate.now (COURIER_CLIENT + self.old.number)) rounds self.old.copy.writer cursors self.new.copy.writer lasts) }
         ensures fault { IfErr result (IsCourierFault (G.may gate.now (COURIER_CLIENT + self.old.number)) rounds) }
     {
         let mut cursors = Cursors::new(alloc, ward_bits, &Table::new(alloc))?;

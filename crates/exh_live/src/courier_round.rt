@@ -1,7 +1,7 @@
 ghost use Rattle.std.specs.Prelude.{◌≡◌, ◌+◌, ◌^◌, ◌<◌, ◌≤◌, ◌↔◌, ℕ, [], ◌++◌, length, map, List, IsTrue, IfOk, OnOk, OnErr};
 ghost use Rattle.exh_notice.specs.declared.notice.Notice.{Notice as NoticeValue};
 ghost use Rattle.exh_copy.specs.declared.addition.Addition.TheVariants.{Take};
-ghost use Rattle.exh_live.specs.Rounds.{AreCarried, Follows, HadSoMany, IsRefusedRound, PushesBatch, PushesFromTo, TakesAll, TakesFirst};
+ghost use Rattle.exh_live.specs.Rounds.{AreCarried, AreSomeWardsNotices, Follows, HadSoMany, IsRefusedRound, PushesBatch, PushesFromTo, TakesAll, TakesFirst};
 
 use crate::lock::yield_and_lock;
 use crate::tallied_ward::TURN_LIMIT;
@@ -29,10 +29,10 @@ impl<P: Pages + Drop, K: Keyer, F: Identity> LiveFile<P, K, F> {
         cursors: &mut Cursors,
     ) -> Result<u64, AllocError>
         requires { length cursors.old ≡ 2 ^ self.now.ward_bits }
-        ensures carried { IfOk result (λ count. (notices : List NoticeValue) × AreCarried 0 cursors.old notices cursors.new × (count ≡ length notices) × (copy.new ≡ record copy.old { published = copy.old.published ++ copy.old.pending ++ map Take notices; pending = [] })) }
+        ensures carried { IfOk result (λ count. (notices : List NoticeValue) × AreCarried 0 cursors.old notices cursors.new × (count ≡ length notices) × (copy.new ≡ record copy.old { published = copy.old.published ++ copy.old.pending ++ map Take notices; pending = [] }) × AreSomeWardsNotices K.pseudokey_of notices) }
         ensures cursors { length cursors.new ≡ length cursors.old }
         ensures name { copy.new.name ≡ copy.old.name }
-        ensures err { OnErr result (IsRefusedRound copy.old cursors.old copy.new cursors.new) }
+        ensures err { OnErr result (IsRefusedRound K.pseudokey_of copy.old cursors.old copy.new cursors.new) }
     {
         let (notices, lasts) = self.notices_after(rt, cursors.of_wards.as_slice())?;
         take_all(copy, notices.as_slice())?;
@@ -48,7 +48,8 @@ impl<P: Pages + Drop, K: Keyer, F: Identity> LiveFile<P, K, F> {
         cursors: &[u64],
     ) -> Result<(Vec<Notice>, Vec<u64>), AllocError>
         requires { length cursors.now ≡ 2 ^ self.now.ward_bits }
-        ensures { IfOk result (λ found. AreCarried 0 cursors.now found.0.items found.1.items) }
+        ensures carried { IfOk result (λ found. AreCarried 0 cursors.now found.0.items found.1.items) }
+        ensures wards { IfOk result (λ found. AreSomeWardsNotices K.pseudokey_of found.0.items) }
     {
         let mut notices = Vec::new(self.alloc);
         let mut lasts = Vec::new(self.alloc);
@@ -70,6 +71,7 @@ impl<P: Pages + Drop, K: Keyer, F: Identity> LiveFile<P, K, F> {
     ) -> Result<u64, AllocError>
         requires { number < 2 ^ self.now.ward_bits }
         ensures pushed { IfOk result (PushesFromTo number notices.old.items cursor notices.new.items) }
+        ensures wards { OnOk result (AreSomeWardsNotices K.pseudokey_of notices.old.items → AreSomeWardsNotices K.pseudokey_of notices.new.items) }
         ensures few { IfOk result (λ last. (count : ℕ) × HadSoMany K.pseudokey_of cursor count × (last ≤ cursor + count)) }
     {
         let ward = &self.wards[usize::from(number)];

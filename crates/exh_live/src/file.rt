@@ -7,7 +7,7 @@ ghost use Rattle.exh_live.specs.declared.ledgers.TheConstants.{ANSWER_PARTS, ENT
 ghost use Rattle.exh_page.specs.StormConfig.{IsStormConfig};
 ghost use Rattle.exh_live.specs.declared.fault.StormFault.TheVariants.{Mismatch as NotSettled};
 
-use crate::{Closed, Identity, LiveFile, StormFault, WardJournals};
+use crate::{Closed, Identity, LiveFile, Outcomes, StormFault, WardJournals};
 use exh_calls::{Diary, settle};
 use exh_keyer::ShaKeyer;
 use exh_page::{FileSettings, StormConfig};
@@ -28,6 +28,15 @@ pub type StormWard<P> = Ward<P, ShaKeyer>;
 pub struct StormLeft<P: Pages + Drop> {
     pub closed: Closed<P, ShaKeyer>,
     pub answers: u64,
+}
+
+/// A storm that is over: what its workers came to, and what it leaves.
+#[derive(Drop)]
+pub struct StormEnd<P: Pages + Drop> {
+    /// None where memory was refused before all workers were joined.
+    pub outcomes: Option<Outcomes>,
+    /// What is left, or the first refusal of the workers; where none was refused, why the file isn't settled.
+    pub left: Result<StormLeft<P>, StormFault>,
 }
 
 /// The new file of a storm, of the cap and the ward bits that it asks for, over stores that the maker makes. An

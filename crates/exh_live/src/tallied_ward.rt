@@ -109,6 +109,7 @@ impl<P: Pages + Drop, K: Keyer, F: Identity> TalliedWard<P, K, F> {
         requires seat { 0 < answers.old.parts }
         ensures fault { IfErr result IsStoreFault }
         ensures refused { IfErr result (IsSomeWardsFault P.failures K.pseudokey_of) }
+        ensures failures { CountsFailures result self.old.ward.failures self.new.ward.failures }
         ensures step { IsSoundWard K.pseudokey_of self.old.ward × IsWardStep K.pseudokey_of self.old.ward (HopAt at client call.now result) self.new.ward }
         ensures units { answers.new.amount ≡ answers.old.amount + length (answer_of (HopAt at client call.now result)) }
         ensures seat { answers.new.parts ≡ answers.old.parts }
@@ -171,32 +172,39 @@ impl<P: Pages + Drop, K: Keyer, F: Identity> TalliedWard<P, K, F> {
         split
     }
 
-    /// How many pages the ward has, where it is the one of a number, and else 0.
-    pub(crate) fn page_count(&self, number: u8) -> PageNo
-        ensures count { HasSoManyPages number self.now.ward result }
+    /// How many pages the ward has, which is the one of a number. `Memory` where it is another, which no file's lock
+    /// keeps.
+    pub(crate) fn page_count(&self, number: u8) -> Result<PageNo, WardFault>
+        ensures count { IfOk result (HasSoManyPages number self.now.ward) }
         ensures sound { IsSoundWard K.pseudokey_of self.now.ward }
-    {
-        // By whose contract the ward is sound.
-        self.ward.journal();
-        if self.ward.number() == number {
-            self.ward.page_count()
-        } else {
-            0
-        }
-    }
-
-    /// A keeper's turn at a page of the ward of a number, as `keep`; where the ward has another number, nothing
-    /// changes. A page out of reach is one that a store of the ward's kind has counted.
-    pub(crate) fn keep_counted(&mut self, number: u8, page: PageNo) -> Result<bool, WardFault>
-        ensures sound { IsSoundWard K.pseudokey_of self.old.ward }
-        ensures kept { IfOk result (λ merged. IsKeeperTurnOf number self.old.ward page merged self.new.ward) }
         ensures fault { IfErr result IsStoreFault }
         ensures refused { IfErr result (IsSomeWardsFault P.failures K.pseudokey_of) }
     {
+        // By whose contracts the ward is sound, and a store has counted as many.
+        self.ward.journal();
+        self.ward.failures();
         if self.ward.number() != number {
-            // By whose contract the ward is sound.
+            return Err(WardFault::Memory);
+        }
+        Ok(self.ward.page_count())
+    }
+
+    /// A keeper's turn at a page of the ward of a number, as `keep`. `Memory`, with nothing changed, where the ward has
+    /// another number, which no file's lock keeps. A page out of reach is one that a store of the ward's kind has
+    /// counted.
+    pub(crate) fn keep_counted(&mut self, number: u8, page: PageNo) -> Result<bool, WardFault>
+        ensures sound { IsSoundWard K.pseudokey_of self.old.ward }
+        ensures kept { IfOk result (λ merged. IsKeeperTurnOf number self.old.ward page merged self.new.ward) }
+        ensures err { OnErr result (IsUnchanged self.old.ward self.new.ward) }
+        ensures fault { IfErr result IsStoreFault }
+        ensures refused { IfErr result (IsSomeWardsFault P.failures K.pseudokey_of) }
+        ensures failures { CountsFailures result self.old.ward.failures self.new.ward.failures }
+    {
+        if self.ward.number() != number {
+            // By whose contracts the ward is sound, and a store has counted as many.
             self.ward.journal();
-            return Ok(false);
+            self.ward.failures();
+            return Err(WardFault::Memory);
         }
         let kept = self.keep(page);
         // By whose contract a store has counted as many.
@@ -240,9 +248,12 @@ impl<P: Pages + Drop, K: Keyer, F: Identity> TalliedWard<P, K, F> {
     /// Pushes the first 256 of the ward's notices above a cursor, in order. At an `AllocError` none is pushed.
     #[tactic(auto, using(std::proofs::lemmas::List::take_min))]
     pub(crate) fn hand_out(&self, cursor: u64, notices: &mut Vec<Notice>) -> Result<(), AllocError>
+        ensures sound { IsSoundWard K.pseudokey_of self.now.ward }
         ensures ok { OnOk result (notices.new.items ≡ notices.old.items ++ take 256 (notices_above cursor self.now.ward.notices)) }
         ensures err { OnErr result (notices.new.items ≡ notices.old.items) }
     {
+        // By whose contract the ward is sound.
+        self.ward.journal();
         let above = self.ward.notices_after(cursor);
         notices.extend_from_slice(&above[..TURN_LIMIT.min(above.len())])
     }

@@ -1,10 +1,10 @@
 //! All workers of a storm at once, each on a thread of its own.
-ghost use Rattle.std.specs.Prelude.{◌≡◌, ◌⊎◌, ◌+◌, ◌^◌, ◌≤◌, ◌++◌, Ok, Err, length, All, IfOk, IfErr, MatchResult};
+ghost use Rattle.std.specs.Prelude.{◌≡◌, ◌+◌, ◌^◌, ◌≤◌, Ok, Err, length, All, IfOk, IfErr, MatchResult};
 ghost use Rattle.std.specs.FinMap as map;
 ghost use Rattle.exh_keyer.specs.Pseudokey.{sha_pseudokey};
 ghost use Rattle.exh_prefix.specs.declared.prefix.TheConstants.{WARD_BITS_LIMIT};
 ghost use Rattle.exh_live.specs.CursorPlaceLemmas.{AreFirst};
-ghost use Rattle.exh_live.specs.Refusals.{HasCounted, IsRefusedCaller, IsRefusedCourier, IsRefusedKeeper, IsWorkersFault, first_refusal};
+ghost use Rattle.exh_live.specs.Refusals.{AreOfWorkers, HasCounted, IsRefusedCaller, IsRefusedCourier, IsRefusedKeeper, first_of_workers, first_refusal};
 ghost use Rattle.exh_live.specs.StormCalls.{IsServed};
 ghost use Rattle.exh_live.specs.StormRounds.{IsCourierFault};
 ghost use Rattle.exh_live.specs.declared.courier.TheConstants.{COURIER_CLIENT};
@@ -13,7 +13,7 @@ ghost use Rattle.exh_live.specs.declared.fault.StormFault.TheVariants.{Memory};
 use crate::file::StormFile;
 use crate::overseers::Overseers;
 use crate::workers::Workers;
-use crate::{Caller, Courier, Identity, Keeper, Seat, StormFault, Watch};
+use crate::{Caller, Courier, Identity, Keeper, Outcome, Outcomes, Seat, StormFault, Watch};
 use exh_copy::Start;
 use exh_page::StormConfig;
 use exh_stores::Pages;
@@ -60,9 +60,6 @@ impl<'a, P: Pages + Drop, G: Gate, R: Wait, S: Start> Promise<(Courier<'a, R, S>
     ghost kept_by = { λ worker result. IfErr result.1 (IsRefusedCourier (G.may worker.gate.value) worker.config.calls worker.number) };
 }
 
-// What came of a worker.
-type Outcome = Result<(), StormFault>;
-
 // A worker's thread, or `Memory` where it can't be made.
 type Thread<T, P, G> = Result<PromisedHandle<T, Worker<P, G>>, StormFault>;
 
@@ -72,10 +69,16 @@ type Called<F> = Result<Seat<F>, StormFault>;
 // What a courier's thread gives.
 type Carried<'a, R, S> = (Courier<'a, R, S>, Outcome);
 
+/// What the workers of a storm leave: the seats of the callers that weren't refused, in order, and what all came to.
+#[derive(Drop)]
+pub(crate) struct Ran<F: Identity> {
+    pub(crate) seats: Vec<Seat<F>>,
+    pub(crate) outcomes: Outcomes,
+}
+
 /// Runs all workers at once, a keeper for each ward among them, each for as many rounds as a caller makes calls, and joins
-/// them; then gives the callers' seats, or the first refusal, of the callers by their numbers, then of the keepers, then
-/// of the couriers. A thread that can't be made is `Memory` of its worker. So is what came of them where there is no
-/// memory for that.
+/// them. A thread that can't be made is `Memory` of its worker. An `AllocError` where there is no memory for what they came
+/// to.
 pub(crate) fn run_all<
     R: Threads + Wait + Sync,
     P: Pages + Drop + Send + Sync,
@@ -90,30 +93,30 @@ pub(crate) fn run_all<
     workers: Workers<'_, R, F, S>,
     config: StormConfig,
     overseers: Overseers<'_, G, W>,
-) -> Result<Vec<Seat<F>>, StormFault>
+) -> Result<Ran<F>, AllocError>
     requires limit { config.ward_bits ≤ WARD_BITS_LIMIT }
     requires bits { config.ward_bits ≡ file.now.ward_bits }
     requires hashed { F.hashing ≡ sha_pseudokey }
     requires copies { (S.ward_bits ≡ config.ward_bits) × (S.table ≡ map.empty) }
     requires callers { AreFirst (λ place caller. caller.seat.client ≡ place + 1) config.callers workers.callers.items }
     requires couriers { AreFirst (λ place courier. courier.number ≡ place + 1) config.copies workers.couriers.items }
-    ensures served { IfOk result (λ seats. All (IsServed config.calls) seats.items) }
-    ensures all { IfOk result (λ seats. length seats.items ≡ config.callers) }
-    ensures fault { IfErr result (λ fault. (fault ≡ Memory) ⊎ IsWorkersFault (HasCounted P.failures) (G.may overseers.entry.gate.now) config fault) }
+    ensures served { IfOk result (λ ran. All (IsServed config.calls) ran.seats.items) }
+    ensures all { IfOk result (λ ran. first_of_workers ran.outcomes ≡ Ok tt → length ran.seats.items ≡ config.callers) }
+    ensures outcomes { IfOk result (λ ran. AreOfWorkers (HasCounted P.failures) (G.may overseers.entry.gate.now) config ran.outcomes) }
 {
     thread::scope(
         thread::scope_env(),
         rt,
-        move |scope| -> Result<Vec<Seat<F>>, StormFault>
+        move |scope| -> Result<Ran<F>, AllocError>
             requires limit { config.ward_bits ≤ WARD_BITS_LIMIT }
             requires bits { config.ward_bits ≡ file.now.ward_bits }
             requires hashed { F.hashing ≡ sha_pseudokey }
             requires copies { (S.ward_bits ≡ config.ward_bits) × (S.table ≡ map.empty) }
             requires callers { AreFirst (λ place caller. caller.seat.client ≡ place + 1) config.callers workers.callers.items }
             requires couriers { AreFirst (λ place courier. courier.number ≡ place + 1) config.copies workers.couriers.items }
-            ensures served { IfOk result (λ seats. All (IsServed config.calls) seats.items) }
-            ensures all { IfOk result (λ seats. length seats.items ≡ config.callers) }
-            ensures fault { IfErr result (λ fault. (fault ≡ Memory) ⊎ IsWorkersFault (HasCounted P.failures) (G.may overseers.entry.gate.now) config fault) }
+            ensures served { IfOk result (λ ran. All (IsServed config.calls) ran.seats.items) }
+            ensures all { IfOk result (λ ran. first_of_workers ran.outcomes ≡ Ok tt → length ran.seats.items ≡ config.callers) }
+            ensures outcomes { IfOk result (λ ran. AreOfWorkers (HasCounted P.failures) (G.may overseers.entry.gate.now) config ran.outcomes) }
         { run_in(scope, rt, alloc, file, workers, config, overseers) },
     )
 }
@@ -136,26 +139,30 @@ fn run_in<
     workers: Workers<'s, R, F, S>,
     config: StormConfig,
     overseers: Overseers<'s, G, W>,
-) -> Result<Vec<Seat<F>>, StormFault>
+) -> Result<Ran<F>, AllocError>
     requires limit { config.ward_bits ≤ WARD_BITS_LIMIT }
     requires bits { config.ward_bits ≡ file.now.ward_bits }
     requires hashed { F.hashing ≡ sha_pseudokey }
     requires copies { (S.ward_bits ≡ config.ward_bits) × (S.table ≡ map.empty) }
     requires callers { AreFirst (λ place caller. caller.seat.client ≡ place + 1) config.callers workers.callers.items }
     requires couriers { AreFirst (λ place courier. courier.number ≡ place + 1) config.copies workers.couriers.items }
-    ensures served { IfOk result (λ seats. All (IsServed config.calls) seats.items) }
-    ensures all { IfOk result (λ seats. length seats.items ≡ config.callers) }
-    ensures fault { IfErr result (λ fault. (fault ≡ Memory) ⊎ IsWorkersFault (HasCounted P.failures) (G.may overseers.entry.gate.now) config fault) }
+    ensures served { IfOk result (λ ran. All (IsServed config.calls) ran.seats.items) }
+    ensures all { IfOk result (λ ran. first_of_workers ran.outcomes ≡ Ok tt → length ran.seats.items ≡ config.callers) }
+    ensures outcomes { IfOk result (λ ran. AreOfWorkers (HasCounted P.failures) (G.may overseers.entry.gate.now) config ran.outcomes) }
 {
     let Workers { callers, couriers } = workers;
     let calling = start_callers(scope, rt, alloc, file, callers, config, overseers)?;
     let keeping = start_keepers(scope, rt, alloc, file, config, overseers)?;
     let carrying = start_couriers(scope, alloc, file, couriers, config, overseers)?;
-    let (seats, called) = join_callers(rt, alloc, calling, config, overseers.gate)?;
-    let kept = join_keepers(rt, alloc, keeping, config, overseers.gate)?;
-    let carried = join_couriers(rt, alloc, carrying, config, overseers.gate)?;
-    first_of_all(&called, &kept, &carried)?;
-    Ok(seats)
+    let (seats, callers) = join_callers(rt, alloc, calling, config, overseers.gate)?;
+    let keepers = join_keepers(rt, alloc, keeping, config, overseers.gate)?;
+    let couriers = join_couriers(rt, alloc, carrying, config, overseers.gate)?;
+    let outcomes = Outcomes {
+        callers,
+        keepers,
+        couriers,
+    };
+    Ok(Ran { seats, outcomes })
 }
 
 // What a thread that can't be made comes to. What was to run on it, which comes back with the refusal, is let
@@ -413,29 +420,4 @@ fn join_courier<R: Threads + Wait, P: Pages + Drop, S: Start, G: Gate>(
         Ok(handle) => handle.join(rt).1,
         Err(fault) => Err(fault),
     }
-}
-
-// The first refusal of the callers, the keepers and the couriers, if there is one.
-fn first_of_all(callers: &[Outcome], keepers: &[Outcome], couriers: &[Outcome]) -> Outcome
-    ensures { result ≡ first_refusal (callers.now ++ (keepers.now ++ couriers.now)) }
-{
-    match first_refusal(callers) {
-        Ok(()) => match first_refusal(keepers) {
-            Ok(()) => first_refusal(couriers),
-            Err(fault) => Err(fault),
-        },
-        Err(fault) => Err(fault),
-    }
-}
-
-// The first refusal, if there is one.
-fn first_refusal(outcomes: &[Outcome]) -> Outcome
-    ensures { result ≡ first_refusal outcomes.now }
-{
-    for outcome in outcomes {
-        if let Err(fault) = outcome {
-            return Err(*fault);
-        }
-    }
-    Ok(())
 }

@@ -1,5 +1,5 @@
 -- Wards that were opened again, and the pairs of a list of wards.
-use Rattle.std.proofs.Common.{◌≡◌, ℕ, ◌^◌, Bool, List, [], ◌∷◌, ◌++◌, map, Result, Ok, Err, IfOk, inl, inr, refl, sym, ap, ap₂, ◌∙◌, subst, arith}
+use Rattle.std.proofs.Common.{◌≡◌, ℕ, ◌^◌, List, [], ◌∷◌, ◌++◌, map, Result, Ok, Err, IfOk, refl, sym, ap, ◌∙◌, subst, arith}
 use Rattle.std.specs.List.{flat_map}
 use Rattle.std.proofs.lemmas.Grind.{flat_map-append}
 use Rattle.std.proofs.lemmas.List.{map-append}
@@ -7,10 +7,9 @@ use Rattle.exh_keyer.specs.declared.any_keyer.AnyKeyer.{AnyKeyer}
 use Rattle.exh_keyer.specs.Pseudokey.{any_pseudokey}
 use Rattle.exh_page.specs.KeyMap.{pair_of}
 use Rattle.exh_page.specs.Page.{records_of}
-use Rattle.exh_page.specs.declared.page.Page.{Page}
 use Rattle.exh_format.specs.PageFile.{pages_of}
 use Rattle.exh_ward.specs.WardState.{WardState}
-use Rattle.exh_in_place.specs.FileChange.{AreParts, HasMap, maps_in}
+use Rattle.exh_in_place.specs.FileChange.{AreParts, maps_in}
 use Rattle.exh_in_place.specs.Opened.{AreWardsOf, OpenedState}
 use Rattle.exh_in_place.specs.Reopened.{IsReopened}
 use Rattle.exh_in_place.specs.Saved.{pages_of_all}

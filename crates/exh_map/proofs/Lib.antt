@@ -9,3 +9,5 @@ pub mod WholeMap
 pub mod OnceLemmas
 -- blocks that are copied one after the other
 pub mod CopyLemmas
+-- low bounds of pages in their places
+pub mod PlaceLemmas

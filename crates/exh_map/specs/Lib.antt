@@ -43,3 +43,5 @@ pub mod Told
 -- why a page file isn't copied, and what copied blocks leave
 pub mod Backup
 pub mod Copy
+-- where pages have their places
+pub mod Places

@@ -4,8 +4,7 @@ ghost use Rattle.exh_map.specs.Sizes.{IsOfCause};
 ghost use Rattle.exh_map.specs.Backup.{IsOfPlace};
 
 use crate::{StoreError, is_at, lock_soon};
-use exh_format::MAGIC;
-use exh_saving::DiskFault;
+use exh_saving::{DiskFault, UNFINISHED};
 use std::alloc::{AllocError, Global};
 use std::fs::{File, OpenOptions, Permissions};
 use std::io::ErrorKind;
@@ -28,7 +27,7 @@ const NAME_LIMIT: usize = 240;
 // How often a file beside is made anew that another process had, and is gone once it is locked.
 const TRIES: u32 = 100;
 
-/// An empty file beside a new path, which is locked.
+/// An unfinished file beside a new path, which is locked.
 #[derive(Drop)]
 pub(crate) struct Beside {
     file: File,
@@ -62,11 +61,11 @@ impl Beside {
         Err(StoreError::Busy)
     }
 
-    // The same, empty, where nothing is at the new path.
+    // The same, with the mark of an unfinished file in place of its first block, where nothing is at the new path.
     fn begun(self, rt: &HostRuntime, new: &str, mode: u32) -> Result<Beside, StoreError>
         ensures { IfErr result IsOfPlace }
     {
-        if !is_of_copy(&self.file)? {
+        if !is_unfinished(&self.file)? {
             return Err(taken(rt, &self.path));
         }
         if fs::symlink_metadata(rt, new).is_ok() {
@@ -75,6 +74,7 @@ impl Beside {
         }
         self.file.set_len(0)?;
         self.file.set_permissions(Permissions::from_mode(mode))?;
+        self.file.write_all_at(&UNFINISHED, 0)?;
         Ok(self)
     }
 
@@ -199,14 +199,14 @@ fn above(file: File) -> io::Result<File> {
     }
 }
 
-// Whether a file is empty, or begins as a copy does that isn't done, with zeros, or as a page file.
-fn is_of_copy(file: &File) -> io::Result<bool> {
+// Whether a file is empty, or begins with the mark of one that isn't finished.
+fn is_unfinished(file: &File) -> io::Result<bool> {
     if file.metadata()?.len() == 0 {
         return Ok(true);
     }
-    let mut front = [0; 8];
-    match file.read_exact_at(&mut front, 0) {
-        Ok(()) => Ok(front == [0; 8] || front == MAGIC),
+    let mut first = [0; 8];
+    match file.read_exact_at(&mut first, 0) {
+        Ok(()) => Ok(first == UNFINISHED),
         Err(error) if error.kind() == ErrorKind::UnexpectedEof => Ok(false),
         Err(error) => Err(error),
     }

@@ -8,6 +8,7 @@ ghost use Rattle.exh_in_place.specs.Reopened.{IsReopened};
 ghost use Rattle.exh_map.specs.Answers.{value_said};
 ghost use Rattle.exh_map.specs.FileMap.{IsGot, IsPut, IsPutAbsent, IsPutNew, IsPutOver, IsRemoved, IsReplaced, IsSwap, KeepsMap};
 ghost use Rattle.exh_map.specs.Pairs.{AreOnce, pairs_in};
+ghost use Rattle.exh_map.specs.Places.{lows_in_places};
 ghost use Rattle.exh_map.specs.Sizes.{IsOfCause};
 
 use crate::answering::answer_in;
@@ -224,6 +225,7 @@ impl<P: Pages + Drop> FileMap<P> {
     ///
     /// Errors: as of `get`.
     pub fn lows_grown(&mut self, alloc: Global, lows: &[u64]) -> Result<Vec<u64>, WardFault>
+        ensures lows { IfOk result (λ grown. grown.items ≡ lows_in_places self.old.ward_bits lows.now self.old.wards) }
         ensures same { OnOk result (self.new ≡ self.old) }
         ensures err { OnErr result (KeepsMap self.old self.new) }
         ensures settings { settings_in self.new ≡ settings_in self.old }

@@ -4,15 +4,15 @@
 #![tactic(auto)]
 
 pub use exh_in_place::{
-    Answered, Blocks, CHANGER, DirectFault, DiskFault, Draft, Expected, FileBlocks, FileForm,
-    FilesFault, Form, INPUT, InPlaceFault, KeyIs, LogFault, NAME_LIMIT, Opened, OpenedFile,
-    PageLog, PlacedForm, Placing, PutIf, Reading, Reason, ReasonReader, Refused, SaveFilesFault,
-    SeenFiles, Stamps, SystemDisk, SystemFile, Truthful, WAIT, above_limit, answer_in_place,
-    answer_over, change_at, change_file, draw_stamp, file_size_limit, find_any, front_of,
-    hold_still, is_at, is_name_of_log, legal_bytes_are_files, legal_files_are_whole, lock_soon,
-    look_at, open, open_above, open_form, open_regular, pause_after, put_at, read_one_state,
-    recover_at, save_at, save_files, save_in_place, see_log, settle_before, tell_reason,
-    with_reason,
+    Answered, Blocks, BytesBlocks, CHANGER, DirectFault, DiskFault, Draft, Expected, FileBlocks,
+    FileForm, FilesFault, Form, INPUT, InMemory, InPlaceFault, KeyIs, LogFault, NAME_LIMIT, Opened,
+    OpenedFile, PageLog, PlacedForm, Placing, PutIf, Reading, Reason, ReasonReader, Refused,
+    SaveFilesFault, SeenFiles, Stamps, Standing, SystemDisk, SystemFile, Truthful, WAIT,
+    above_limit, answer_in_place, answer_over, change_at, change_file, draw_stamp, file_size_limit,
+    find_any, front_of, hold_still, is_at, is_name_beside, legal_bytes_are_files,
+    legal_files_are_whole, lock_soon, look_at, open, open_above, open_form, open_regular,
+    pause_after, put_at, read_one_state, recover_at, save_at, save_files, save_in_place, see_log,
+    see_room_for_copy, share_soon, stand_still, tell_reason, with_reason,
 };
 pub use exh_ward::new_wards;
 pub use fault::BackupFault;
@@ -26,7 +26,9 @@ pub use settings::{Settings, USUAL};
 pub use sizes::{key_of, value_of};
 pub use source::{opened_at, see_old_version, unread_at, unread_file};
 pub use store_error::StoreError;
+pub use stray_log::see_no_log;
 pub use swap::Swap;
+pub use waiting::{TRIES, is_replaced};
 
 mod answering;
 mod beside;
@@ -45,6 +47,8 @@ mod settings;
 mod sizes;
 mod source;
 mod store_error;
+mod stray_log;
 mod swap;
 mod target;
+mod waiting;
 mod ward_pairs;

@@ -5,11 +5,13 @@ ghost use Rattle.exh_map.specs.Backup.{IsOfBackup, IsOfSource};
 
 use crate::beside::Beside;
 use crate::blocks::{copy_all, copy_rest, finish};
-use crate::source::{opened_at, see_old_version};
+use crate::source::see_old_version;
 use crate::target::FileTarget;
+use crate::waiting::opened_there;
 use crate::{
-    BackupFault, FileBlocks, InPlaceFault, Reading, Reason, Refused, StoreError, WAIT, hold_still,
-    is_name_of_log, open_above, read_one_state,
+    BackupFault, BytesBlocks, FileBlocks, InMemory, InPlaceFault, Reading, Reason, Refused,
+    Standing, StoreError, WAIT, is_name_beside, open_above, read_one_state, see_no_log,
+    see_room_for_copy, stand_still,
 };
 use exh_codec::BLOCK_LEN;
 use exh_saving::folder_of;
@@ -19,8 +21,8 @@ use std::{fs, io};
 
 /// Copies the page file of a path, of any version, byte for byte to a new path at which nothing is: all of one state, also
 /// beside others that change it. They are kept out for up to five seconds; where one has the writers' lock all the while, as an
-/// open store does, the file is read until all of it is one state. The copy is written beside the new path, and linked there
-/// once all of it is on the disk.
+/// open store does, the file is read until all of it is one state. Where what a log has can't be copied into the file, for want
+/// of room or permission, the copy has it. It is written beside the new path, and linked there once all of it is on the disk.
 ///
 /// `Copy(Unsynchronized)`: it is copied, but a power failure may take the copy away. `Copy(Exists)`: something is at the new path.
 /// `Copy(Busy)`: another process is at work there. Others: as they say. Of these nothing is left at the new path.
@@ -44,6 +46,9 @@ pub fn backup_within(
         Ok(source) => source,
         Err(fault) => return Err(BackupFault::File(fault)),
     };
+    if let Err(fault) = see_room_for_copy(rt, &source.file, new) {
+        return Err(BackupFault::Copy(StoreError::from(fault)));
+    }
     let beside = match Beside::made(rt, &source.file, new, seconds) {
         Ok(beside) => beside,
         Err(fault) => return Err(BackupFault::Copy(fault)),
@@ -63,18 +68,21 @@ pub fn backup_within(
     }
 }
 
-// Sees that nothing is at a new path, and that no page file's log would be there.
+// Sees that nothing is at a new path, that no page file's log would be there, and that no log stands beside it.
 fn see_free(rt: &HostRuntime, new: &str) -> Result<(), BackupFault>
     ensures { IfErr result IsOfBackup }
 {
-    match is_name_of_log(rt, new) {
+    match is_name_beside(rt, new) {
         Ok(false) => {}
-        Ok(true) => return Err(BackupFault::Copy(StoreError::Unfit(InPlaceFault::LogName))),
+        Ok(true) => return Err(BackupFault::Copy(StoreError::Unfit(InPlaceFault::NameBeside))),
         Err(error) => return Err(BackupFault::Copy(StoreError::from(error))),
     }
     match fs::symlink_metadata(rt, new) {
         Ok(_) => Err(BackupFault::Copy(StoreError::Exists)),
-        Err(_) => Ok(()),
+        Err(_) => match see_no_log(rt, new) {
+            Ok(()) => Ok(()),
+            Err(refused) => Err(BackupFault::Copy(StoreError::from(refused))),
+        },
     }
 }
 
@@ -82,28 +90,40 @@ fn synchronize_folder(rt: &HostRuntime, new: &str) -> io::Result<()> {
     open_above(rt, folder_of(new))?.sync_all()
 }
 
-// A page file that is to be copied, and whether it stands still as long as it is open.
+// A page file that is to be copied, and what of it is copied.
 #[derive(Drop)]
 struct Source {
     file: File,
-    is_still: bool,
+    content: Content,
+}
+
+// What of a page file is copied.
+#[derive(Drop)]
+enum Content {
+    // The file, which stands still as long as it is open.
+    Still,
+    // One state of it, which is looked for.
+    Changing,
+    // The file with what its log has.
+    InMemory(InMemory),
 }
 
 // The page file of a path, from which writers are kept, unless one has the lock all the while.
 fn held_still(rt: &HostRuntime, path: &str, seconds: u64) -> Result<Source, StoreError>
     ensures { IfErr result IsOfSource }
 {
-    let file = opened_at(rt, path)?;
-    let is_still = match hold_still(rt, path, &file, seconds) {
-        Ok(true) => true,
-        Ok(false) => {
+    let (file, seconds) = opened_there(rt, path, seconds)?;
+    let content = match stand_still(rt, path, &file, seconds) {
+        Ok(Standing::Whole) => Content::Still,
+        Ok(Standing::Replaced) => {
             see_old_version(&file)?;
-            true
+            Content::Still
         }
-        Err(Refused::Unfit(InPlaceFault::Busy)) => false,
+        Ok(Standing::InMemory(found)) => Content::InMemory(found),
+        Err(Refused::Unfit(InPlaceFault::Busy)) => Content::Changing,
         Err(refused) => return Err(StoreError::from(refused)),
     };
-    Ok(Source { file, is_still })
+    Ok(Source { file, content })
 }
 
 // Copies a page file into an empty file.
@@ -116,10 +136,10 @@ fn fill(
 ) -> Result<(), BackupFault>
     ensures { IfErr result IsOfBackup }
 {
-    if source.is_still {
-        copy_still(&source.file, copy)
-    } else {
-        copy_state(rt, path, copy, seconds)
+    match &source.content {
+        Content::Still => copy_still(&source.file, copy),
+        Content::Changing => copy_state(rt, path, copy, seconds),
+        Content::InMemory(found) => copy_bytes(found.bytes(), copy),
     }
 }
 
@@ -129,6 +149,16 @@ fn copy_still(file: &File, copy: &File) -> Result<(), BackupFault>
 {
     let reason = Cell::new(None);
     match whole_blocks(file, &reason) {
+        Ok(mut blocks) => copy_all(&mut blocks, &mut FileTarget { file: copy }),
+        Err(fault) => Err(BackupFault::File(fault)),
+    }
+}
+
+// Copies a page file in memory into an empty file.
+fn copy_bytes(bytes: &[u8], copy: &File) -> Result<(), BackupFault>
+    ensures { IfErr result IsOfBackup }
+{
+    match blocks_of(bytes) {
         Ok(mut blocks) => copy_all(&mut blocks, &mut FileTarget { file: copy }),
         Err(fault) => Err(BackupFault::File(fault)),
     }
@@ -152,6 +182,13 @@ impl Reading for Rest<'_> {
             Err(fault) => Err(BackupFault::File(fault)),
         }
     }
+
+    fn read_bytes(&mut self, bytes: &[u8]) -> Result<[u8; BLOCK_LEN], BackupFault> {
+        match blocks_of(bytes) {
+            Ok(mut blocks) => copy_rest(&mut blocks, &mut FileTarget { file: self.copy }),
+            Err(fault) => Err(BackupFault::File(fault)),
+        }
+    }
 }
 
 // Copies one state of the page file of a path that another process may change into an empty file.
@@ -171,6 +208,17 @@ fn whole_blocks<'f>(file: &'f File, reason: &'f Reason) -> Result<FileBlocks<'f>
 {
     if file.metadata()?.len() % BLOCK_LEN as u64 == 0 {
         Ok(FileBlocks::new(file, reason)?)
+    } else {
+        Err(StoreError::Truncated)
+    }
+}
+
+// The same of a page file in memory.
+fn blocks_of(bytes: &[u8]) -> Result<BytesBlocks<'_>, StoreError>
+    ensures { IfErr result IsOfCause }
+{
+    if bytes.len() % BLOCK_LEN == 0 {
+        Ok(BytesBlocks::new(bytes))
     } else {
         Err(StoreError::Truncated)
     }

@@ -1,9 +1,10 @@
 //! The places that pages have in a page file of version 3, once it is saved over.
-ghost use Rattle.std.specs.Prelude.{◌≡◌, ◌≤◌, OnErr, OnOk};
+ghost use Rattle.std.specs.Prelude.{◌≡◌, ◌≤◌, [], ◌∷◌, ◌++◌, drop, IfOk, OnErr, OnOk};
 ghost use Rattle.exh_in_place.specs.Opened.{AreWardsOf, in_file};
 ghost use Rattle.exh_prefix.specs.declared.prefix.TheConstants.{WARD_BITS_LIMIT};
 ghost use Rattle.exh_ward.specs.WardState.{IsUnchanged};
 ghost use Rattle.exh_map.specs.FileMap.{KeepsMap};
+ghost use Rattle.exh_map.specs.Places.{count_of, lows_in_places, lows_of};
 
 use exh_keyer::{AnyKeyer, Keyer};
 use exh_page::FileSettings;
@@ -23,6 +24,7 @@ pub(crate) fn lows_grown<P: Pages + Drop>(
     lows: &[u64],
 ) -> Result<Vec<u64>, WardFault>
     requires { AreWardsOf (in_file settings wards.old.items) }
+    ensures lows { IfOk result (λ grown. grown.items ≡ lows_in_places settings.ward_bits lows.now wards.old.items) }
     ensures ok { OnOk result (wards.new.items ≡ wards.old.items) }
     ensures err { OnErr result (KeepsMap (in_file settings wards.old.items) (in_file settings wards.new.items)) }
     ensures wards { AreWardsOf (in_file settings wards.new.items) }
@@ -37,13 +39,14 @@ pub(crate) fn lows_grown<P: Pages + Drop>(
 }
 
 // How many of these low bounds are of the pages of a ward.
-fn placed_in(ward_bits: u8, number: usize, lows: &[u64]) -> u32
+fn placed_in(ward_bits: u8, number: usize, lows: &[u64]) -> usize
     requires { ward_bits ≤ WARD_BITS_LIMIT }
+    ensures { result ≡ count_of ward_bits number lows.now }
 {
-    let mut placed = 0u32;
-    for low in lows {
-        if usize::from(ward_number(ward_bits, *low)) == number {
-            placed = placed.saturating_add(1);
+    let mut placed = 0usize;
+    for at in 0..lows.len() {
+        if usize::from(ward_number(ward_bits, lows[at])) == number {
+            placed += 1;
         }
     }
     placed
@@ -53,11 +56,13 @@ fn placed_in(ward_bits: u8, number: usize, lows: &[u64]) -> u32
 fn push_others<P: Pages + Drop, K: Keyer>(
     lows: &mut Vec<u64>,
     ward: &mut Ward<P, K>,
-    from: u32,
+    from: usize,
 ) -> Result<(), WardFault>
+    ensures lows { OnOk result (lows.new.items ≡ lows.old.items ++ drop from (lows_of ward.old)) }
     ensures ok { OnOk result (ward.new ≡ ward.old) }
     ensures err { OnErr result (IsUnchanged ward.old ward.new) }
 {
+    let from = from.min(u32::MAX as usize) as u32;
     'pages: for number in from..ward.page_count() {
         let low = ward.head(number)?.low();
         push_low(lows, low)?;
@@ -66,7 +71,9 @@ fn push_others<P: Pages + Drop, K: Keyer>(
 }
 
 // Puts a low bound behind others.
-fn push_low(lows: &mut Vec<u64>, low: u64) -> Result<(), AllocError> {
+fn push_low(lows: &mut Vec<u64>, low: u64) -> Result<(), AllocError>
+    ensures { OnOk result (lows.new.items ≡ lows.old.items ++ low ∷ []) }
+{
     lows.push(low)?;
     Ok(())
 }

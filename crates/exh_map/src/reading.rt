@@ -2,8 +2,10 @@
 ghost use Rattle.std.specs.Prelude.{IfErr, IfOk, IfSome};
 ghost use Rattle.exh_map.specs.Sizes.{IsOfOpening};
 
-use crate::source::opened_at;
-use crate::{InPlaceFault, Reading, Refused, StoreError, hold_still, pause_after, read_one_state};
+use crate::waiting::opened_there;
+use crate::{
+    InPlaceFault, Reading, Refused, Standing, StoreError, pause_after, read_one_state, stand_still,
+};
 use std::thread::sleep;
 use std::time::{Duration, Instant};
 
@@ -11,7 +13,8 @@ use std::time::{Duration, Instant};
 const PAUSES: u64 = 500;
 
 /// What a reading finds in one state of the file of a path. Writers are kept from it while it is read; where one has its
-/// lock, it is read beside that one, as `read_beside` reads it.
+/// lock, it is read beside that one, as `read_beside` reads it. Where what a log has can't be copied into the file, for want of
+/// room or permission, both are read in memory.
 ///
 /// Errors: as of `read_beside`.
 pub fn read_still<R: Reading>(
@@ -77,9 +80,10 @@ fn read_held<R: Reading>(
     ensures found { IfOk result (λ found. IfSome found R.gives) }
     ensures err { IfErr result IsOfOpening }
 {
-    let file = opened_at(rt, path)?;
-    match hold_still(rt, path, &file, seconds) {
-        Ok(_) => Ok(Some(reading.read(&file))),
+    let (file, seconds) = opened_there(rt, path, seconds)?;
+    match stand_still(rt, path, &file, seconds) {
+        Ok(Standing::InMemory(found)) => Ok(Some(reading.read_bytes(found.bytes()))),
+        Ok(Standing::Whole | Standing::Replaced) => Ok(Some(reading.read(&file))),
         Err(Refused::Unfit(InPlaceFault::Busy)) => Ok(None),
         Err(refused) => Err(StoreError::from(refused)),
     }

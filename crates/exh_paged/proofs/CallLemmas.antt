@@ -1,13 +1,11 @@
 -- What an operation makes of a page file.
-use Rattle.std.proofs.Common.{◌≡◌, ◌⊎◌, ◌/◌, Bool, ℕ, List, [], ◌∷◌, ◌++◌, length, Option, None, Some, IfSome, IsTrue, Result, Ok, Err, OnOk, IfOk, IfErr, refl, sym, ◌∙◌, ap, subst, inl, inr, arith}
+use Rattle.std.proofs.Common.{◌≡◌, ◌/◌, Bool, ℕ, List, ◌∷◌, ◌++◌, length, Option, None, Some, IfSome, Result, Ok, Err, OnOk, IfOk, IfErr, refl, sym, ◌∙◌, ap, subst, inl, inr, arith}
 use Rattle.std.specs.Prelude.{MatchResult}
 use Rattle.exh_table.specs.Table.{TableMap}
 use Rattle.exh_page.specs.KeyMap.{KeyMap}
 use Rattle.exh_format.specs.Reading.{AreBytes}
 use Rattle.exh_cells.specs.LegalPlaced.{IsLegalPlacedFile}
 use Rattle.exh_cells.specs.PlacedFile.{PlacedFile}
-use Rattle.exh_change.specs.declared.DirectFault.{DirectFault}
-use Rattle.exh_change.specs.DirectLaws.{IsOtherFault}
 use Rattle.exh_commit.specs.declared.BlockEdit.{BlockEdit}
 use Rattle.exh_commit.specs.BlockEdits.{with_edits}
 use Rattle.exh_commit.specs.EditsInTurn.{AreInTurn}
@@ -15,7 +13,7 @@ use Rattle.exh_commit.specs.declared.change_fault.ChangeFault.{ChangeFault}
 use Rattle.exh_commit.specs.declared.change_fault.ChangeFault.TheVariants.{Open, Refused, Commit, LeftInLog}
 use Rattle.exh_commit.specs.declared.commit_fault.CommitFault.TheVariants.{Place, NotSaved, MaybeSaved}
 use Rattle.exh_commit.specs.Change.{IsCause, IsChanged, IsOldOrChanged, MayChange}
-use Rattle.exh_paged.specs.CallChange.{HasAnswer, HasPairs, HasState, HasStamps, IsAnswered, IsCalled, IsMade, IsOldOrCalled, IsStampedOver, MayMake, MayRefuse, OfLegal}
+use Rattle.exh_paged.specs.CallChange.{IsAnswered, IsCalled, IsMade, IsOldOrCalled, IsStampedOver, MayMake, MayRefuse, OfLegal}
 use Rattle.exh_paged.specs.declared.files_fault.FilesFault.{FilesFault}
 use Rattle.exh_paged.specs.declared.files_fault.FilesFault.TheVariants.{OthersLog, NotAsOpened, Header, Read, Uncopied, Change}
 use Rattle.exh_paged.specs.FilesFault.{ChangeFails, IsOfDisk}

@@ -1,9 +1,10 @@
 -- What a crash leaves of files that were opened, asked and given back.
-use Rattle.std.proofs.Common.{◌≡◌, ℕ, List, refl, sym, ap₂, subst, inl, inr}
+use Rattle.std.proofs.Common.{◌≡◌, ◌∙◌, ℕ, List, refl, sym, ap₂, subst, inl, inr}
+use Rattle.std.proofs.lemmas.Bool.{and_from, and_parts}
 use Rattle.sqlite_disk.specs.declared.Disk.{Ghosts}
 use Rattle.sqlite_disk.specs.Disk.{Only}
 use Rattle.sqlite_wal.specs.Files.{seen_image}
-use Rattle.sqlite_wal.specs.Reads.{AreClean}
+use Rattle.sqlite_wal.specs.Reads.{AreClean, OnlyReads}
 use Rattle.sqlite_wal.specs.Recovery.{Image}
 use Rattle.sqlite_wal.specs.declared.error.Error.{Error}
 use Rattle.exh_commit.specs.declared.change_fault.ChangeFault.{ChangeFault}
@@ -76,3 +77,21 @@ leaves_if g files P all left clean may = all clean left clean may
 
 pub alone_if : {D : Type 0} (g : Ghosts D) (files : D × D) (P : List ℕ → Type 0) → (AreClean g files.0 files.1 → LeavesAlone g files P) → LeavesAlone g files P
 alone_if g files P all left clean may = all clean left clean may
+
+-- ---- files that were only read
+
+pub only_read : {D : Type 0} (g : Ghosts D) (old new : D) → OnlyReads g old new → Only (g.seen old) (g.may_leave old) → Only (g.seen new) (g.may_leave new)
+only_read g old new reads synced left may = synced left (reads.crash left may) ∙ sym reads.seen
+
+pub read_leaves : {D : Type 0} (g : Ghosts D) (old new : D × D) → OnlyReads g old.0 new.0 → OnlyReads g old.1 new.1 → LeavesAsFound g old new
+read_leaves g old new log db left clean may = inl (log.crash left.log may.0, db.crash left.db may.1)
+
+pub same_image : {D : Type 0} (g : Ghosts D) (old new : D × D) → OnlyReads g old.0 new.0 → OnlyReads g old.1 new.1 → seen_image g new.0 new.1 ≡ seen_image g old.0 old.1
+same_image g old new log db =
+    let of_two : List ℕ → List ℕ → Image = λ log db. record { log = log; db = db } in
+    ap₂ of_two log.seen db.seen
+
+pub read_clean : {D : Type 0} (g : Ghosts D) (old new : D × D) → OnlyReads g old.0 new.0 → OnlyReads g old.1 new.1 → AreClean g new.0 new.1 → AreClean g old.0 old.1
+read_clean g old new log db clean =
+    let parts = and_parts (g.is_clean new.0) (g.is_clean new.1) clean in
+    and_from (g.is_clean old.0) (g.is_clean old.1) (log.clean parts.0) (db.clean parts.1)

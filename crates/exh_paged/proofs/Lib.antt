@@ -1,4 +1,5 @@
 pub mod FilesLemmas
+pub mod OwnLemmas
 pub mod DraftLemmas
 pub mod CallLemmas
 pub mod EditLemmas

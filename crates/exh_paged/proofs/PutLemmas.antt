@@ -6,7 +6,6 @@ use Rattle.exh_table.specs.Table.{TableMap}
 use Rattle.exh_page.specs.KeyMap.{KeyMap}
 use Rattle.exh_calls.specs.Effect.{Effect, effect_of}
 use Rattle.exh_calls.specs.MapMachine.{changed, is_full, map_after, reply_of}
-use Rattle.exh_calls.specs.declared.call.Call.{Call}
 use Rattle.exh_calls.specs.declared.call.Call.TheVariants.{Get, Put}
 use Rattle.exh_calls.specs.declared.reply.Reply.{Reply}
 use Rattle.exh_cells.specs.LegalPlaced.{IsLegalPlacedFile}

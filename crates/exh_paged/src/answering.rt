@@ -5,8 +5,8 @@ ghost use Rattle.sqlite_wal.specs.Files.{seen_image};
 ghost use Rattle.sqlite_wal.specs.Reads.{AreClean};
 ghost use Rattle.exh_commit.specs.FilePages.{Leaves, LeavesAlone, StandsFor};
 ghost use Rattle.exh_paged.specs.CallChange.{IsAnswered, IsCalled, IsOldOrCalled, OfLegal};
-ghost use Rattle.exh_paged.specs.FilesFault.{ChangeFails, IsCause, IsOfDisk, IsSaved, IsUnchanged};
-ghost use Rattle.exh_paged.specs.OwnLog.{IsExpected};
+ghost use Rattle.exh_paged.specs.FilesFault.{ChangeFails, IsCauseIn, IsOfDisk, IsOthersLog, IsSaved, IsUnchanged};
+ghost use Rattle.exh_paged.specs.OwnLog.{IsExpected, IsOwnPair};
 
 use crate::operated::Operated;
 use crate::{Expected, FilesFault, Operation, change_files};
@@ -20,7 +20,7 @@ use std::alloc::Global;
 /// back. `stamp` is the file's where it changes. It takes memory for the blocks that are kept, as many as the options say,
 /// and for those that the operation reads and changes.
 ///
-/// `OthersLog`: the log is another file's. `NotAsOpened`: the file has another stamp. `Header`: the header fails this test.
+/// `OthersLog`: the log isn't this file's. `NotAsOpened`: the file has another stamp. `Header`: the header fails this test.
 /// `Read`: it couldn't be read. `Uncopied`: what a cut-off run left in the log couldn't be copied into the file, and stands
 /// there still. `Change`: the two couldn't be opened, what the operation reads is no legal page file or couldn't be read, or
 /// the blocks weren't saved, or may not have been, as the fault says.
@@ -54,8 +54,11 @@ pub fn answer_files<D: Truthful + Drop, O: Operation>(
         → OfLegal old (λ file. Leaves D.Disk (result.1.log, result.1.db) (IsCalled D.Truthful.is_truthful (O.is_idle operation.now) file (O.leaves operation.now file) stamp old))) }
 
     // What was changed is in the state that was expected, and another one is told, unless a wrong answer of the disk was taken as true.
-    ensures expected { OnOk result.0 (AreClean D.Disk result.1.log result.1.db → (old : List ℕ) → StandsFor (seen_image D.Disk files.log files.db) old → IsExpected expected old) }
-    ensures refused { IfErr result.0 (λ fault. AreClean D.Disk result.1.log result.1.db → (old : List ℕ) → StandsFor (seen_image D.Disk files.log files.db) old → IsCause expected old fault) }
+    ensures expected { OnOk result.0 (AreClean D.Disk result.1.log result.1.db → (old : List ℕ) → StandsFor (seen_image D.Disk files.log files.db) old → IsExpected expected (seen_image D.Disk files.log files.db) old) }
+    ensures refused { IfErr result.0 (λ fault. AreClean D.Disk result.1.log result.1.db → (old : List ℕ) → StandsFor (seen_image D.Disk files.log files.db) old → IsCauseIn expected (seen_image D.Disk files.log files.db) old fault) }
+
+    // A file and a log that belong together aren't told to be of two files, unless a wrong answer of the disk was taken as true.
+    ensures own { IfErr result.0 (λ fault. AreClean D.Disk result.1.log result.1.db → IsOwnPair (seen_image D.Disk files.log files.db) → IsOthersLog fault → ⊥) }
 
     // Of a legal page file nothing is refused for what it has, where no answer of the disk can be wrong.
     ensures legal { IfErr result.0 (λ fault. IsTrue D.Truthful.is_truthful → (old : List ℕ) → StandsFor (seen_image D.Disk files.log files.db) old → OfLegal old (λ file. ChangeFails IsOfDisk fault)) }

@@ -1,7 +1,8 @@
 ghost use Rattle.std.specs.Prelude.{◌≡◌, ℕ, List, IfErr, OnOk};
-ghost use Rattle.exh_paged.specs.FilesFault.{IsCause, IsEarly, IsSaved};
+ghost use Rattle.sqlite_wal.specs.Recovery.{Image};
+ghost use Rattle.exh_paged.specs.FilesFault.{IsCauseIn, IsEarly, IsSaved};
 ghost use Rattle.exh_paged.specs.declared.files_fault.FilesFault.TheVariants.{NotAsOpened, OthersLog};
-ghost use Rattle.exh_paged.specs.OwnLog.{HasHeader, IsExpected, IsLaterThan};
+ghost use Rattle.exh_paged.specs.OwnLog.{HasHeader, IsExpected, IsLaterThan, MustHaveFor};
 
 use crate::FilesFault;
 use exh_cells::StampedHeader;
@@ -9,31 +10,32 @@ use exh_cells::StampedHeader;
 /// The state in which a page file has to be, as its log has it, where it is opened.
 #[derive(Clone, Copy)]
 pub enum Expected {
-    /// Any state of the file that has this stamp without its log: its own, or the one that came of it. Where the stamp isn't
-    /// known, as of a header that is damaged, any.
-    Own(Option<u64>),
+    /// Any state of the file: the one that it has without its log, the one that came of it, or the last of several that the
+    /// log has, of which each came of the one before it. Where the file's own header is damaged, any.
+    Own,
     /// The state that has this stamp.
     Stamp(u64),
 }
 
 impl Expected {
-    /// Sees that a header is that of the state.
+    /// Sees that a header is that of the state. Where a state of the file is expected, it has to have this stamp, or to have
+    /// it as the stamp before.
     ///
     /// `OthersLog`: it is none of the file's states. `NotAsOpened`: it has another stamp.
-    pub(crate) fn see(self, header: &StampedHeader) -> Result<(), FilesFault>
-        ensures expected { OnOk result ((bytes : List ℕ) → HasHeader bytes header.now → IsExpected self bytes) }
-        ensures refused { IfErr result (λ fault. (bytes : List ℕ) → HasHeader bytes header.now → IsCause self bytes fault) }
+    pub(crate) fn see(self, header: &StampedHeader, own: Option<u64>) -> Result<(), FilesFault>
+        ensures expected { OnOk result ((image : Image) (bytes : List ℕ) → MustHaveFor self image own → HasHeader bytes header.now → IsExpected self image bytes) }
+        ensures refused { IfErr result (λ fault. (image : Image) (bytes : List ℕ) → MustHaveFor self image own → HasHeader bytes header.now → IsCauseIn self image bytes fault) }
         ensures early { IfErr result IsEarly }
         ensures unsaved { IfErr result (λ fault. IsSaved fault → ⊥) }
     {
         match self {
-            Expected::Own(own) => see_own(header, own),
+            Expected::Own => see_own(header, own),
             Expected::Stamp(stamp) => see_stamp(header, stamp),
         }
     }
 }
 
-// Sees that a header is a later one of the file that has this stamp without its log.
+// Sees that a header has this stamp, or has it as the stamp before.
 fn see_own(header: &StampedHeader, own: Option<u64>) -> Result<(), FilesFault>
     ensures own { OnOk result (IsLaterThan own header.now) }
     ensures others { IfErr result (λ fault. (fault ≡ OthersLog) × (IsLaterThan own header.now → ⊥)) }

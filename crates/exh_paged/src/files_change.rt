@@ -6,8 +6,8 @@ ghost use Rattle.sqlite_wal.specs.Reads.{AreClean};
 ghost use Rattle.exh_commit.specs.Change.{IsChanged, IsOldOrChanged, MayChange};
 ghost use Rattle.exh_commit.specs.Change as changes;
 ghost use Rattle.exh_commit.specs.FilePages.{Leaves, LeavesAlone, StandsFor};
-ghost use Rattle.exh_paged.specs.FilesFault.{ChangeFails, IsCause, IsSaved, IsUnchanged};
-ghost use Rattle.exh_paged.specs.OwnLog.{IsExpected};
+ghost use Rattle.exh_paged.specs.FilesFault.{ChangeFails, IsCauseIn, IsOthersLog, IsSaved, IsUnchanged};
+ghost use Rattle.exh_paged.specs.OwnLog.{IsExpected, IsOwnPair};
 
 use crate::opening::open_expected;
 use crate::{Expected, FilesFault};
@@ -20,7 +20,7 @@ use std::alloc::Global;
 /// edits that a changer makes of it, moves them into the file, and gives both back. It takes memory for the blocks that are
 /// kept, as many as the options say, and for the edits.
 ///
-/// `OthersLog`: the log is another file's. `NotAsOpened`: the file has another stamp. `Header`: the header fails this test.
+/// `OthersLog`: the log isn't this file's. `NotAsOpened`: the file has another stamp. `Header`: the header fails this test.
 /// `Read`: it couldn't be read. `Uncopied`: what a cut-off run left in the log couldn't be copied into the file, and stands
 /// there still. `Change`: the two couldn't be opened, the changer refused, or the edits weren't saved, or may not have been,
 /// as the fault says.
@@ -53,8 +53,11 @@ pub fn change_files<D: Truthful + Drop, C: Changer>(
         → Leaves D.Disk (result.1.log, result.1.db) (MayChange D.Truthful.is_truthful (C.allows changer.now) old)) }
 
     // What was changed is in the state that was expected, and another one is told, unless a wrong answer of the disk was taken as true.
-    ensures expected { OnOk result.0 (AreClean D.Disk result.1.log result.1.db → (old : List ℕ) → StandsFor (seen_image D.Disk files.log files.db) old → IsExpected expected old) }
-    ensures refused { IfErr result.0 (λ fault. AreClean D.Disk result.1.log result.1.db → (old : List ℕ) → StandsFor (seen_image D.Disk files.log files.db) old → IsCause expected old fault) }
+    ensures expected { OnOk result.0 (AreClean D.Disk result.1.log result.1.db → (old : List ℕ) → StandsFor (seen_image D.Disk files.log files.db) old → IsExpected expected (seen_image D.Disk files.log files.db) old) }
+    ensures refused { IfErr result.0 (λ fault. AreClean D.Disk result.1.log result.1.db → (old : List ℕ) → StandsFor (seen_image D.Disk files.log files.db) old → IsCauseIn expected (seen_image D.Disk files.log files.db) old fault) }
+
+    // A file and a log that belong together aren't told to be of two files, unless a wrong answer of the disk was taken as true.
+    ensures own { IfErr result.0 (λ fault. AreClean D.Disk result.1.log result.1.db → IsOwnPair (seen_image D.Disk files.log files.db) → IsOthersLog fault → ⊥) }
     ensures cause { IfErr result.0 (λ fault. IsTrue D.Truthful.is_truthful → (old : List ℕ) → StandsFor (seen_image D.Disk files.log files.db) old
         → ChangeFails (changes.IsCause (C.allows changer.now) (C.refuses changer.now) old) fault) }
 {

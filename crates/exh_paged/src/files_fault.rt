@@ -6,8 +6,8 @@ use thiserror::Error as Fault;
 /// Why a page file wasn't changed, or may not have been.
 #[derive(Clone, Copy, Debug, Fault)]
 pub enum FilesFault {
-    /// The log is another file's. Nothing was changed.
-    #[error("the log beside it, of the same name with -wal behind it, is another file's: remove it")]
+    /// The log isn't this file's. Nothing was changed.
+    #[error("the log beside it, of the same name with -wal behind it, isn't this file's: move it away, keep it, and try check")]
     OthersLog,
     /// The file has another stamp than the one with which it was opened. Nothing was changed.
     #[error("the page file was changed since it was opened")]

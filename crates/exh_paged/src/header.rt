@@ -4,7 +4,7 @@ ghost use Rattle.sqlite_wal.specs.State.{Keeps};
 ghost use Rattle.exh_commit.specs.FilePages.{Leaves};
 ghost use Rattle.exh_commit.specs.PagedFile.{IsHonest, IsReady, bytes_in, files_in, state_in};
 ghost use Rattle.exh_paged.specs.declared.expected.Expected.{Expected};
-ghost use Rattle.exh_paged.specs.FilesFault.{IsCause, IsEarly, IsSaved};
+ghost use Rattle.exh_paged.specs.FilesFault.{IsCause, IsEarly, IsOthersLog, IsSaved};
 ghost use Rattle.exh_paged.specs.OwnLog.{HasHeader};
 
 use crate::FilesFault;
@@ -20,6 +20,7 @@ pub(crate) fn header_in<D: Disk>(file: &mut PagedFile<D>) -> Result<StampedHeade
     requires { IsReady file.old }
     ensures header { IfOk result (λ header. IsHonest file.new → HasHeader (bytes_in file.old) header) }
     ensures refused { (expected : Expected) → IfErr result (λ fault. IsHonest file.new → IsCause expected (bytes_in file.old) fault) }
+    ensures others { IfErr result (λ fault. IsOthersLog fault → ⊥) }
     ensures early { IfErr result IsEarly }
     ensures unsaved { IfErr result (λ fault. IsSaved fault → ⊥) }
     ensures same_bytes { bytes_in file.new ≡ bytes_in file.old }

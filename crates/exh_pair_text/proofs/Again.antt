@@ -8,9 +8,9 @@ use Rattle.std.proofs.lemmas.Bool.{cases_eq, ne_eqb}
 use Rattle.std.proofs.lemmas.Bool.Decides.{nat_tests}
 use Rattle.hex.specs.Hex.{encode_lower, encode_with, lower_digits}
 use Rattle.hex.proofs.HexLemmas.{IsDigits-lower_digits}
-use Rattle.exh_pair_text.specs.Bytes.{backslash, behind_slash, byte_text, first_byte, return, two_digits}
+use Rattle.exh_pair_text.specs.Bytes.{backslash, behind_slash, byte_text, first_byte, leading_text, return, two_digits}
 use Rattle.exh_pair_text.specs.Formats.{tab}
-use Rattle.exh_pair_text.specs.Lines.{field_text}
+use Rattle.exh_pair_text.specs.Lines.{field_text, key_text}
 use Rattle.exh_pair_text.specs.Reading.{bytes_from, field_bytes}
 use Rattle.exh_pair_text.specs.declared.field.Field.{Field}
 use Rattle.exh_pair_text.specs.declared.separated.Separated.{Separated}
@@ -109,6 +109,21 @@ hex_bytes_again at bytes all = ap (bytes_from true at 0) (sym (digit_pieces byte
 pub text_bytes_again : (at : ℕ) (bytes : List ℕ) → AllByRecursion (λ byte. byte < 256) bytes → bytes_from false at 0 (flat_map byte_text bytes) ≡ Ok bytes
 text_bytes_again at bytes all = pieces_again false byte_text at bytes text_again text_some all
 
+-- those with which a line begins
+leading_hash_first : (more : List ℕ) → first_byte false (codes "\\x23" ++ more) ≡ Some (35, 4)
+unfolding first_byte behind_slash
+leading_hash_first more = refl
+
+leading_bytes_again : (at : ℕ) (bytes : List ℕ) → AllByRecursion (λ byte. byte < 256) bytes → bytes_from false at 0 (leading_text bytes) ≡ Ok bytes
+unfolding leading_text bytes_from
+leading_bytes_again at [] all = refl
+leading_bytes_again at (byte ∷ bytes) all = elim (cases_eq byte 35) [
+  | inl is ↦ rw is (
+      byte_step false at (codes "\\x23" ++ flat_map byte_text bytes) 35 4 (leading_hash_first (flat_map byte_text bytes)) (omega arith) (omega arith)
+      ∙ ap (behind (35 ∷ [])) (text_bytes_again (at + 4) bytes all.1))
+  | inr other ↦ rw (ne_eqb byte 35 other) (text_bytes_again at (byte ∷ bytes) all)
+]
+
 -- ---- which bytes stand in it
 
 abbrev is_printable : ℕ → Bool
@@ -173,6 +188,14 @@ texts_printable : (bytes : List ℕ) → AllByRecursion (λ byte. byte < 256) by
 texts_printable [] all = refl
 texts_printable (byte ∷ bytes) all = list_all-append is_printable (byte_text byte) (flat_map byte_text bytes) ∙ rw (text_printable byte all.0, texts_printable bytes all.1) refl
 
+leading_printable : (bytes : List ℕ) → AllByRecursion (λ byte. byte < 256) bytes → list_all is_printable (leading_text bytes) ≡ true
+unfolding leading_text
+leading_printable [] all = refl
+leading_printable (byte ∷ bytes) all = elim (cases_eq byte 35) [
+  | inl is ↦ rw is (texts_printable bytes all.1)
+  | inr other ↦ rw (ne_eqb byte 35 other) (texts_printable (byte ∷ bytes) all)
+]
+
 -- ---- keys and values
 
 -- the bytes up to here stand in no key or value
@@ -192,3 +215,16 @@ field_again Words true field at bytes all = hex_bytes_again at bytes all
 field_again Tsv true field at bytes all = hex_bytes_again at bytes all
 field_again Words false field at bytes all = rw (printed_again bytes all) refl
 field_again Tsv false field at bytes all = text_bytes_again at bytes all
+
+pub key_other : (format : Separated) (hex : Bool) (mark : ℕ) (bytes : List ℕ) → mark < least_limit format → AllByRecursion (λ byte. byte < 256) bytes → AreOther mark (key_text format hex bytes)
+key_other Words true mark bytes small all = graphic_other mark (encode_lower bytes) small (hex_graphic bytes all)
+key_other Tsv true mark bytes small all = graphic_other mark (encode_lower bytes) (omega arith) (hex_graphic bytes all)
+key_other Words false mark bytes small all = graphic_other mark (printed bytes) small (printed_graphic bytes all)
+key_other Tsv false mark bytes small all = printable_other mark (leading_text bytes) small (leading_printable bytes all)
+
+pub key_again : (format : Separated) (hex : Bool) (field : Field) (at : ℕ) (bytes : List ℕ) → AllByRecursion (λ byte. byte < 256) bytes → field_bytes format hex field at (key_text format hex bytes) ≡ Ok bytes
+unfolding field_bytes
+key_again Words true field at bytes all = hex_bytes_again at bytes all
+key_again Tsv true field at bytes all = hex_bytes_again at bytes all
+key_again Words false field at bytes all = rw (printed_again bytes all) refl
+key_again Tsv false field at bytes all = leading_bytes_again at bytes all

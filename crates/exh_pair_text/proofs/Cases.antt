@@ -1,5 +1,5 @@
 -- Bytes as the code reads and writes them, by cases.
-use Rattle.std.proofs.Common.{◌≡◌, ◌≢◌, ℕ, ◌-◌, ◌/◌, ◌<◌, ◌≤◌, List, [], ◌∷◌, ◌++◌, length, take, drop, get_or, unwrap_or, IsSome, Bool, true, false, cond, Option, Some, None, Ok, Err, inl, inr, refl, sym, subst, arith}
+use Rattle.std.proofs.Common.{◌≡◌, ◌≢◌, ℕ, ◌-◌, ◌/◌, ◌<◌, ◌≤◌, List, [], ◌∷◌, ◌++◌, length, take, drop, get_or, unwrap_or, IsSome, Bool, true, false, cond, Option, Some, None, Ok, Err, inl, inr, refl, sym, subst, flat_map, arith}
 use Rattle.std.specs.Prelude.{codes, nat_le}
 use Rattle.std.specs.Option.{option_map}
 use Rattle.std.specs.Int.{is_in_range}
@@ -16,7 +16,7 @@ use Rattle.exh_text.proofs.ByteWords.{word_hex, word_own}
 use Rattle.exh_text.proofs.Hexadecimal.{decode_sized-hex_bytes}
 use Rattle.exh_pair_text.specs.declared.spelled.Spelled.TheVariants.{Few, Many}
 use Rattle.exh_pair_text.specs.declared.wrong_line.WrongLine.TheVariants.{EmptyKey, LongKey, LongValue}
-use Rattle.exh_pair_text.specs.Bytes.{behind_slash, byte_text, first_byte, return, two_digits}
+use Rattle.exh_pair_text.specs.Bytes.{behind_slash, byte_text, first_byte, leading_text, return, two_digits}
 use Rattle.exh_pair_text.specs.Formats.{tab}
 use Rattle.exh_pair_text.specs.Reading.{key_of_bytes, value_of_bytes}
 use Rattle.exh_pair_text.specs.Spelled.{spelled}
@@ -129,6 +129,29 @@ pub text_other : (byte : ℕ) → byte ≢ 9 → byte ≢ 10 → byte ≢ 13 →
 unfolding byte_text
 text_other byte tab newline return slash outside =
     rw (ne_eqb byte 9 tab, ne_eqb byte 10 newline, ne_eqb byte 13 return, ne_eqb byte 92 slash) (other_at (is_in_range 32 126 byte) byte outside)
+
+-- ---- writing: the bytes with which a line begins
+
+pub leading_none : (bytes : List ℕ) → length bytes < 1 → leading_text bytes ≡ flat_map byte_text bytes
+unfolding leading_text
+leading_none [] short = refl
+leading_none (byte ∷ bytes) short = absurd (omega arith)
+
+pub leading_hash : (bytes : List ℕ) → 1 ≤ length bytes → get_or bytes 0 0 ≡ 35 → leading_text bytes ≡ codes "\\x23" ++ flat_map byte_text (take (length bytes - 1) (drop 1 bytes))
+unfolding leading_text
+leading_hash [] some is = absurd (omega arith)
+leading_hash (byte ∷ bytes) some is = rw (take_rest, is) refl
+
+pub hash_first : (bytes : List ℕ) → get_or bytes 0 0 ≡ 35 → 1 ≤ length bytes
+hash_first [] is = absurd (omega (arith, is))
+hash_first (byte ∷ bytes) is = omega arith
+
+pub leading_other : (bytes : List ℕ) → 1 ≤ length bytes → get_or bytes 0 0 ≢ 35 → leading_text bytes ≡ flat_map byte_text bytes
+unfolding leading_text
+leading_other [] some other = absurd (omega arith)
+leading_other (byte ∷ bytes) some other = rw (ne_eqb byte 35 other) refl
+
+pub ruleset leading_cases = (leading_none, leading_hash, leading_other)
 
 -- ---- keys and values
 

@@ -28,10 +28,10 @@ use Rattle.exh_pair_text.specs.declared.separated.Separated.TheVariants.{Words, 
 use Rattle.exh_pair_text.specs.Formats.{format_named, separator, tab}
 use Rattle.exh_pair_text.specs.Laws.{IsPair, PairsAreOneLine, PairsAreRead}
 use Rattle.exh_pair_text.specs.Json.{in_digits, json_words, string_by}
-use Rattle.exh_pair_text.specs.Lines.{csv_words, end_words, field_text, json_end_words, json_opening, opening_words, separated_words}
+use Rattle.exh_pair_text.specs.Lines.{csv_words, end_words, field_text, key_text, json_end_words, json_opening, opening_words, separated_words}
 use Rattle.exh_pair_text.specs.Parts.{usual}
 use Rattle.exh_pair_text.specs.Reading.{before_end, cut_at, end_in, json_end_in, line_read, opening_in, pair_in, separated_pair, text_read}
-use Rattle.exh_pair_text.proofs.Again.{field_again, field_other, graphic_other}
+use Rattle.exh_pair_text.proofs.Again.{field_again, field_other, graphic_other, key_again, key_other}
 use Rattle.exh_pair_text.proofs.Cases.{key_kept, value_kept}
 use Rattle.exh_pair_text.proofs.CsvAgain.{Begins, csv_again, csv_begins, csv_kept, csv_some, string_some}
 use Rattle.exh_pair_text.proofs.Cuts.{cut_behind, cut_nowhere, cut_parts}
@@ -56,12 +56,12 @@ prefixed prefix word rest found =
 
 -- ---- the cut of a pair's line
 
-key_other : (format : Separated) (hex : Bool) (key : List ℕ) → AllByRecursion (λ byte. byte < 256) key → AllByRecursion (λ byte. byte ≢ separator format) (field_text format hex key)
-key_other Words hex key all = field_other Words hex 32 key (omega arith) all
-key_other Tsv hex key all = field_other Tsv hex tab key (omega arith) all
+key_apart : (format : Separated) (hex : Bool) (key : List ℕ) → AllByRecursion (λ byte. byte < 256) key → AllByRecursion (λ byte. byte ≢ separator format) (key_text format hex key)
+key_apart Words hex key all = key_other Words hex 32 key (omega arith) all
+key_apart Tsv hex key all = key_other Tsv hex tab key (omega arith) all
 
-pair_cut : (format : Separated) (hex : Bool) (key value : List ℕ) → AllByRecursion (λ byte. byte < 256) key → cut_at (separator format) (separated_words format hex key value) ≡ Some (field_text format hex key, field_text format hex value)
-pair_cut format hex key value all = cut_behind (separator format) (field_text format hex key) (field_text format hex value) (key_other format hex key all)
+pair_cut : (format : Separated) (hex : Bool) (key value : List ℕ) → AllByRecursion (λ byte. byte < 256) key → cut_at (separator format) (separated_words format hex key value) ≡ Some (key_text format hex key, field_text format hex value)
+pair_cut format hex key value all = cut_behind (separator format) (key_text format hex key) (field_text format hex value) (key_apart format hex key all)
 
 -- ---- words: a mark begins with the word `#`, which is no key
 
@@ -77,7 +77,7 @@ hash_word : bytes_of_word (35 ∷ []) ≡ Some []
 unfolding bytes_of_word
 hash_word = refl
 
-no_hash : (hex : Bool) (key : List ℕ) → AllByRecursion (λ byte. byte < 256) key → 1 ≤ length key → field_text Words hex key ≡ 35 ∷ [] → ⊥
+no_hash : (hex : Bool) (key : List ℕ) → AllByRecursion (λ byte. byte < 256) key → 1 ≤ length key → key_text Words hex key ≡ 35 ∷ [] → ⊥
 no_hash true key all some is = omega (arith, ap length is, length-encode_with lower_digits key)
 no_hash false key all some is =
     let none : Some key ≡ Some [] = sym (printed_again key all) ∙ ap bytes_of_word is ∙ hash_word in
@@ -226,9 +226,9 @@ pair_again format hex key value pair =
     let values = recursion_from_All _ value pair.value_bytes in
     rw (
       pair_cut format hex key value keys,
-      field_again format hex field.Key 1 key keys,
+      key_again format hex field.Key 1 key keys,
       key_kept key pair.some pair.key_limit,
-      field_again format hex field.Value (length (field_text format hex key) + 2) value values,
+      field_again format hex field.Value (length (key_text format hex key) + 2) value values,
       value_kept value pair.value_limit,
     ) refl
 
@@ -238,7 +238,7 @@ line_by format hex [] pair opening end is some = absurd (some refl)
 line_by format hex (byte ∷ line) pair opening end is some = rw (opening, end, is) refl
 
 not_empty : (format : Separated) (hex : Bool) (key value : List ℕ) → separated_words format hex key value ≡ [] → ⊥
-not_empty format hex key value is = omega (arith, ap length is, length-append (field_text format hex key) (separator format ∷ field_text format hex value))
+not_empty format hex key value is = omega (arith, ap length is, length-append (key_text format hex key) (separator format ∷ field_text format hex value))
 
 -- an object is no mark
 object_opening : (rest : List ℕ) → opening_in (123 ∷ 34 ∷ 107 ∷ rest) ≡ None
@@ -326,10 +326,10 @@ parted_other (first ∷ front) byte rest before is all = (before.0, parted_other
 
 words_one_line : (format : Separated) (hex : Bool) (key value : List ℕ) → IsPair key value → AllByRecursion (λ byte. byte ≢ newline) (separated_words format hex key value)
 words_one_line Words hex key value pair =
-    parted_other (field_text Words hex key) 32 (field_text Words hex value) (field_other Words hex newline key (omega arith) (recursion_from_All _ key pair.key_bytes)) (λ is. absurd (omega arith))
+    parted_other (key_text Words hex key) 32 (field_text Words hex value) (key_other Words hex newline key (omega arith) (recursion_from_All _ key pair.key_bytes)) (λ is. absurd (omega arith))
     (field_other Words hex newline value (omega arith) (recursion_from_All _ value pair.value_bytes))
 words_one_line Tsv hex key value pair =
-    parted_other (field_text Tsv hex key) 9 (field_text Tsv hex value) (field_other Tsv hex newline key (omega arith) (recursion_from_All _ key pair.key_bytes)) (λ is. absurd (omega arith))
+    parted_other (key_text Tsv hex key) 9 (field_text Tsv hex value) (key_other Tsv hex newline key (omega arith) (recursion_from_All _ key pair.key_bytes)) (λ is. absurd (omega arith))
     (field_other Tsv hex newline value (omega arith) (recursion_from_All _ value pair.value_bytes))
 
 -- ---- one line

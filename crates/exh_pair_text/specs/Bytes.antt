@@ -1,5 +1,5 @@
 -- How a byte is spelled, and which byte a text begins with.
-use Rattle.std.specs.Prelude.{ℕ, ◌+◌, ◌*◌, ◌==◌, List, [], ◌∷◌, ◌++◌, Bool, true, false, if◌then◌else◌, Option, Some, None, codes}
+use Rattle.std.specs.Prelude.{ℕ, ◌+◌, ◌*◌, ◌==◌, List, [], ◌∷◌, ◌++◌, Bool, true, false, if◌then◌else◌, Option, Some, None, codes, flat_map}
 use Rattle.std.specs.Int.{is_in_range}
 use Rattle.std.specs.Option.{option_map}
 use Rattle.hex.specs.Hex.{encode_lower, hex_digit_value}
@@ -23,6 +23,12 @@ byte_text byte =
     else (if byte == return then codes "\\r"
     else (if byte == backslash then codes "\\\\"
     else (if is_in_range 32 126 byte then byte ∷ [] else codes "\\x" ++ encode_lower (byte ∷ [])))))
+
+-- Bytes with which a line of tab-separated text begins: a `#` is in hexadecimal, so that no beginning of the line is that of an
+-- export's first or last line.
+unfoldable pub leading_text : List ℕ → List ℕ
+leading_text [] = []
+leading_text (byte ∷ bytes) = if byte == 35 then codes "\\x23" ++ flat_map byte_text bytes else byte_text byte ++ flat_map byte_text bytes
 
 -- ---- reading
 

@@ -8,7 +8,7 @@ use Rattle.exh_pair_text.specs.declared.pair_format.PairFormat.{PairFormat}
 use Rattle.exh_pair_text.specs.declared.pair_format.PairFormat.TheVariants.{Words, Tsv, Jsonl, Csv}
 use Rattle.exh_pair_text.specs.declared.separated.Separated.{Separated}
 use Rattle.exh_pair_text.specs.declared.separated.Separated.TheVariants as apart
-use Rattle.exh_pair_text.specs.Bytes.{byte_text}
+use Rattle.exh_pair_text.specs.Bytes.{byte_text, leading_text}
 use Rattle.exh_pair_text.specs.Formats.{format_name, separator}
 use Rattle.exh_pair_text.specs.Json.{json_words, string_by}
 
@@ -18,8 +18,14 @@ field_text format true bytes = encode_lower bytes
 field_text apart.Words false bytes = printed bytes
 field_text apart.Tsv false bytes = flat_map byte_text bytes
 
+-- a key, with which a line begins
+abbrev pub key_text : Separated → Bool → List ℕ → List ℕ
+key_text format true bytes = encode_lower bytes
+key_text apart.Words false bytes = printed bytes
+key_text apart.Tsv false bytes = leading_text bytes
+
 abbrev pub separated_words : Separated → Bool → List ℕ → List ℕ → List ℕ
-separated_words format hex key value = field_text format hex key ++ separator format ∷ field_text format hex value
+separated_words format hex key value = key_text format hex key ++ separator format ∷ field_text format hex value
 
 -- a record of two fields, of bytes or of their hexadecimal digits
 abbrev pub csv_words : Bool → List ℕ → List ℕ → List ℕ

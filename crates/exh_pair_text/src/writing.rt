@@ -2,9 +2,9 @@
 ghost use Rattle.std.specs.Prelude.{◌≡◌, ◌++◌, OnOk, decimal, flat_map};
 ghost use Rattle.exh_text.specs.Printing.{Keeps};
 ghost use Rattle.exh_pair_text.specs.Rows.{field_words};
-ghost use Rattle.exh_pair_text.specs.Bytes.{byte_text};
+ghost use Rattle.exh_pair_text.specs.Bytes.{byte_text, leading_text};
 ghost use Rattle.exh_pair_text.specs.Json.{string_by};
-ghost use Rattle.exh_pair_text.specs.Lines.{csv_words, end_line, field_text, opening_line, pair_line, separated_words};
+ghost use Rattle.exh_pair_text.specs.Lines.{csv_words, end_line, field_text, key_text, opening_line, pair_line, separated_words};
 
 use crate::byte_text::{push_byte, push_digits};
 use crate::json_object::push_object;
@@ -71,12 +71,45 @@ fn push_separated(
     ensures ok { OnOk result (text.new.items ≡ text.old.items ++ separated_words format is_hex key.now value.now) }
     ensures kept { Keeps text.old.items text.new.items }
 {
-    push_field(text, format, is_hex, key)?;
+    push_key(text, format, is_hex, key)?;
     text.extend_from_slice([format.separator()].as_slice())?;
     push_field(text, format, is_hex, value)
 }
 
-// Adds a key or a value.
+// Adds a key, with which a line begins.
+fn push_key(
+    text: &mut Vec<u8>,
+    format: Separated,
+    is_hex: bool,
+    key: &[u8],
+) -> Result<(), AllocError>
+    ensures ok { OnOk result (text.new.items ≡ text.old.items ++ key_text format is_hex key.now) }
+    ensures kept { Keeps text.old.items text.new.items }
+{
+    if is_hex {
+        return push_digits(text, key);
+    }
+    match format {
+        Separated::Words => push_value(text, key),
+        Separated::Tsv => push_leading(text, key),
+    }
+}
+
+// Adds bytes with which a line of tab-separated text begins. A `#` in front would make a line that is cut look like an
+// export's last one.
+#[tactic(auto, using(crate::proofs::Cases::leading_cases))]
+fn push_leading(text: &mut Vec<u8>, bytes: &[u8]) -> Result<(), AllocError>
+    ensures ok { OnOk result (text.new.items ≡ text.old.items ++ leading_text bytes.now) }
+    ensures kept { Keeps text.old.items text.new.items }
+{
+    if bytes.is_empty() || bytes[0] != b'#' {
+        return push_escaped(text, bytes);
+    }
+    push_text(text, "\\x23")?;
+    push_escaped(text, &bytes[1..])
+}
+
+// Adds a value.
 fn push_field(
     text: &mut Vec<u8>,
     format: Separated,

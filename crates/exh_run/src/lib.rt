@@ -8,9 +8,9 @@ pub use exh_job::{
     save_new, save_of_job, tell_line, tell_path, tell_reason, warn,
 };
 pub use exhash::{
-    BackupFault, Direct, FileBlocks, INPUT, PageLog, Pairs, Put, Reason, Settings, Store,
-    StoreError, backup_within, find_any, make, open_regular, pause_after, read_beside, unread_at,
-    with_reason,
+    BackupFault, BytesBlocks, Direct, FileBlocks, INPUT, PageLog, Pairs, Put, Reason, Settings,
+    Store, StoreError, backup_within, find_any, make, open_regular, pause_after, read_beside,
+    unread_at, with_reason,
 };
 pub use input::{input_keys, input_value};
 pub use log_name::is_for_log;

@@ -13,7 +13,7 @@ use Rattle.exh_saving.specs.declared.fault.DiskFault.TheVariants.{Busy, Memory, 
 use Rattle.exh_saving.specs.declared.found.Found.{Found}
 use Rattle.exh_saving.specs.declared.found.Head.{Head}
 use Rattle.exh_saving.specs.declared.found.Runner.{Runner}
-use Rattle.exh_saving.specs.LeftOver.{BeginsAs, IsLeftOver}
+use Rattle.exh_saving.specs.LeftOver.{IsLeftOver, IsUnfinished}
 use Rattle.exh_saving.specs.Names.{IsBeside, suffixes}
 
 -- a call failed, the error being of this kind
@@ -25,28 +25,28 @@ abbrev pub IsRunner : (Answer → Type 0) → Option Runner → Type 0
 IsRunner answers None = (error : Error) × answers (Fails error)
 IsRunner answers (Some runner) = answers (Runs runner)
 
--- whether a file of this name begins as a save leaves it; one that may not be read isn't taken
-abbrev pub IsOfASave : (Answer → Type 0) → List ℕ → List ℕ → Bool → Type 0
-IsOfASave answers magic name true = (head : Head) × answers (Begins name head) × BeginsAs head magic
-IsOfASave answers magic name false = FailsAs answers PermissionDenied ⊎ ((head : Head) × answers (Begins name head) × (BeginsAs head magic → ⊥))
+-- whether a file of this name is one that a save hasn't finished; one that may not be read isn't taken
+abbrev pub IsOfASave : (Answer → Type 0) → List ℕ → Bool → Type 0
+IsOfASave answers name true = (head : Head) × answers (Begins name head) × IsUnfinished head
+IsOfASave answers name false = FailsAs answers PermissionDenied ⊎ ((head : Head) × answers (Begins name head) × (IsUnfinished head → ⊥))
 
 -- what has a name is what a killed save left
 abbrev pub IsLeft : (Answer → Type 0) → List ℕ → Option Found → Type 0
 IsLeft answers name old = (found : Found) × (runner : Option Runner) × answers (Named name found) × IsRunner answers runner × IsLeftOver found runner old
 
--- a save may have the file of a name: nothing had it, or what a killed save left, that begins as it does
-abbrev pub MayClaim : (Answer → Type 0) → List ℕ → Option Found → List ℕ → Type 0
-MayClaim answers magic old name = answers (Unnamed name) ⊎ (IsLeft answers name old × IsOfASave answers magic name true)
+-- a save may have the file of a name: nothing had it, or what a killed save left, unfinished
+abbrev pub MayClaim : (Answer → Type 0) → Option Found → List ℕ → Type 0
+MayClaim answers old name = answers (Unnamed name) ⊎ (IsLeft answers name old × IsOfASave answers name true)
 
 -- it may not: the name is the path's, or something has it that no save left
-abbrev pub IsTakenName : (Answer → Type 0) → List ℕ → List ℕ → Option Found → List ℕ → Type 0
-IsTakenName answers magic path old name = (name ≡ path)
+abbrev pub IsTakenName : (Answer → Type 0) → List ℕ → Option Found → List ℕ → Type 0
+IsTakenName answers path old name = (name ≡ path)
     ⊎ ((found : Found) × (runner : Option Runner) × answers (Named name found) × IsRunner answers runner × (IsLeftOver found runner old → ⊥))
-    ⊎ IsOfASave answers magic name false
+    ⊎ IsOfASave answers name false
 
 -- a file was claimed beside a path
-abbrev pub IsClaimed : (Answer → Type 0) → List ℕ → List ℕ → Option Found → List ℕ → Type 0
-IsClaimed answers magic path old name = ((suffix : List ℕ) × IsBeside path suffix name) × MayClaim answers magic old name
+abbrev pub IsClaimed : (Answer → Type 0) → List ℕ → Option Found → List ℕ → Type 0
+IsClaimed answers path old name = ((suffix : List ℕ) × IsBeside path suffix name) × MayClaim answers old name
 
 -- a call failed, and so it is told, where one kind of error says that another save has the file
 abbrev pub IsBusyAt : (Answer → Type 0) → ErrorKind → Call → DiskFault → Type 0
@@ -69,14 +69,14 @@ IsUnmade answers name fault = IsTold answers Make fault
     ⊎ IsUnowned answers name fault
 
 -- the name beside a path that has this behind it is taken
-abbrev pub IsTakenBeside : (Answer → Type 0) → List ℕ → List ℕ → Option Found → List ℕ → Type 0
-IsTakenBeside answers magic path old suffix = (name : List ℕ) × IsBeside path suffix name × IsTakenName answers magic path old name
+abbrev pub IsTakenBeside : (Answer → Type 0) → List ℕ → Option Found → List ℕ → Type 0
+IsTakenBeside answers path old suffix = (name : List ℕ) × IsBeside path suffix name × IsTakenName answers path old name
 
 -- each name beside a path is taken
-abbrev pub IsNoName : (Answer → Type 0) → List ℕ → List ℕ → Option Found → DiskFault → Type 0
-IsNoName answers magic path old (NoName names) = All (IsTakenBeside answers magic path old) suffixes
-IsNoName answers magic path old fault = ⊥
+abbrev pub IsNoName : (Answer → Type 0) → List ℕ → Option Found → DiskFault → Type 0
+IsNoName answers path old (NoName names) = All (IsTakenBeside answers path old) suffixes
+IsNoName answers path old fault = ⊥
 
 -- no file was claimed beside a path
-abbrev pub IsUnclaimed : (Answer → Type 0) → List ℕ → List ℕ → Option Found → DiskFault → Type 0
-IsUnclaimed answers magic path old fault = (fault ≡ Memory) ⊎ IsNoName answers magic path old fault ⊎ ((name : List ℕ) × IsUnmade answers name fault)
+abbrev pub IsUnclaimed : (Answer → Type 0) → List ℕ → Option Found → DiskFault → Type 0
+IsUnclaimed answers path old fault = (fault ≡ Memory) ⊎ IsNoName answers path old fault ⊎ ((name : List ℕ) × IsUnmade answers name fault)

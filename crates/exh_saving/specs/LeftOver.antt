@@ -1,5 +1,6 @@
 -- What a killed save may have left beside a path.
-use Rattle.std.specs.Prelude.{◌≡◌, ◌⊎◌, ℕ, IsSomeAnd, List, Option, min, take}
+use Rattle.std.specs.Prelude.{◌≡◌, ◌⊎◌, IsSomeAnd, Option}
+use Rattle.exh_saving.specs.declared.claiming.TheConstants.{UNFINISHED}
 use Rattle.exh_saving.specs.declared.found.Found.{Found}
 use Rattle.exh_saving.specs.declared.found.Head.{Head}
 use Rattle.exh_saving.specs.declared.found.Kind.TheVariants.{Regular}
@@ -11,6 +12,6 @@ pub record IsLeftOver (found : Found) (runner : Option Runner) (old : Option Fou
   pub alone : found.links ≡ 1
   pub owner : IsSomeAnd runner (λ runner. found.owner ≡ runner.user) ⊎ IsSomeAnd old (λ old. found.owner ≡ old.owner)
 
--- a file has these bytes first, as far as it goes
-abbrev pub BeginsAs : Head → List ℕ → Type 0
-BeginsAs head magic = take (min head.found.size 8) head.bytes ≡ take (min head.found.size 8) magic
+-- a file is empty, or begins with the mark of one that isn't finished
+abbrev pub IsUnfinished : Head → Type 0
+IsUnfinished head = (head.found.size ≡ 0) ⊎ (head.bytes ≡ UNFINISHED)

@@ -31,7 +31,7 @@ abbrev pub MayPlace : {O : Type 0} → (Answer → Type 0) → (O → Found → 
 MayPlace answers finds magic named seen path = (old : Option Found) × MayTake answers finds magic named seen path old
     × IsAgain answers finds magic named seen path old
     × IfSome old (λ old. answers (Stays path old))
-    × ((name : List ℕ) × IsClaimed answers magic path old name)
+    × ((name : List ℕ) × IsClaimed answers path old name)
 
 -- the lock of the file at a path wasn't had
 abbrev pub IsUnheld : (Answer → Type 0) → DiskFault → Type 0
@@ -77,7 +77,7 @@ abbrev pub IsUnsaved : {O : Type 0} → (List ℕ → List ℕ → Type 0) → (
     → List ℕ → List ℕ → Option (Bor (Seen O)) → List ℕ → DiskFault → Type 0
 IsUnsaved leads answers finds fails magic named seen path fault = IsOldUnheld answers finds magic named seen path fault
     ⊎ ((old : Option Found) × MayTake answers finds magic named seen path old
-    × (IsUnclaimed answers magic path old fault
+    × (IsUnclaimed answers path old fault
     ⊎ IsUnprepared answers finds magic named seen path old fault
     ⊎ IsUnwritten fails fault
     ⊎ ((name : List ℕ) × IsUnplaced leads answers named path name fault)))

@@ -126,14 +126,14 @@ fn claim_beside<D: Disk>(
     ensures bytes { IfOk result (λ claimed. D.holds claimed.0 ≡ D.unwritten) }
     ensures beside { IfOk result (λ claimed. string_bytes claimed.1 ≢ path.now) }
     ensures owned { IfOk result (λ claimed. D.answers (Owned (string_bytes claimed.1))) }
-    ensures free { IfOk result (λ claimed. IsClaimed D.answers target.now.magic path.now (option_map (λ held. held.found) old.now) (string_bytes claimed.1)) }
-    ensures err { IfErr result (IsUnclaimed D.answers target.now.magic path.now (option_map (λ held. held.found) old.now)) }
+    ensures free { IfOk result (λ claimed. IsClaimed D.answers path.now (option_map (λ held. held.found) old.now) (string_bytes claimed.1)) }
+    ensures err { IfErr result (IsUnclaimed D.answers path.now (option_map (λ held. held.found) old.now)) }
     ensures crash { D.history disk.new path.now ≡ D.history disk.old path.now }
 {
     if let Some(old) = old {
         clear_names(alloc, disk, path, old)?;
     }
-    claim(alloc, disk, path, target.magic, found_of(old).as_ref())
+    claim(alloc, disk, path, found_of(old).as_ref())
 }
 
 // Dresses and writes an empty file. What is at the path is asked again first: by now no other save changes it.

@@ -7,7 +7,7 @@ ghost use Rattle.exh_saving.specs.declared.stage.Stage.TheVariants.{Empty, Made,
 ghost use Rattle.exh_saving.specs.History.{SameBut};
 ghost use Rattle.exh_saving.specs.Stage.{asked, is_ours, locked};
 ghost use Rattle.exh_saving.specs.Claimed.{IsClaimed, IsNotOwn, IsOfASave, IsRunner, IsTakenName, IsUnclaimed, IsUnmade, IsUnowned, MayClaim};
-ghost use Rattle.exh_saving.specs.LeftOver.{BeginsAs, IsLeftOver};
+ghost use Rattle.exh_saving.specs.LeftOver.{IsLeftOver, IsUnfinished};
 
 use crate::names::{NAMES, name_beside, names_beside, suffix_of};
 use crate::{Call, Disk, DiskFault, Found, Head, Kind, Runner};
@@ -19,28 +19,30 @@ const PRIVATE: u32 = 0o600;
 
 const USUAL: u32 = 0o666;
 
+/// What a file beside begins with until it is finished. No page file does.
+pub const UNFINISHED: [u8; 8] = *b"EXHASHUF";
+
 /// An empty file beside a path for one save alone, and its name. What a killed save left there is taken over; where a
 /// name is taken otherwise, or is that of the path, another one is tried.
 pub(crate) fn claim<D: Disk>(
     alloc: Global,
     disk: &mut D,
     path: &str,
-    magic: [u8; 8],
     old: Option<&Found>,
 ) -> Result<(D::File, String), DiskFault>
     ensures stage { IfOk result (λ claimed. D.stage claimed.0 ≡ Empty) }
     ensures bytes { IfOk result (λ claimed. D.holds claimed.0 ≡ D.unwritten) }
     ensures beside { IfOk result (λ claimed. string_bytes claimed.1 ≢ path.now) }
     ensures owned { IfOk result (λ claimed. D.answers (Owned (string_bytes claimed.1))) }
-    ensures free { IfOk result (λ claimed. IsClaimed D.answers magic path.now (option_copied old.entry) (string_bytes claimed.1)) }
-    ensures err { IfErr result (IsUnclaimed D.answers magic path.now (option_copied old.entry)) }
+    ensures free { IfOk result (λ claimed. IsClaimed D.answers path.now (option_copied old.entry) (string_bytes claimed.1)) }
+    ensures err { IfErr result (IsUnclaimed D.answers path.now (option_copied old.entry)) }
     ensures crash { D.history disk.new path.now ≡ D.history disk.old path.now }
 {
     for turn in 0..NAMES {
         let Ok(name) = name_beside(alloc, path, suffix_of(turn)) else {
             return Err(DiskFault::Memory);
         };
-        if let Some(file) = claim_name(disk, &name, path, magic, old)? {
+        if let Some(file) = claim_name(disk, &name, path, old)? {
             return Ok((file, name));
         }
     }
@@ -56,15 +58,14 @@ fn claim_name<D: Disk>(
     disk: &mut D,
     name: &str,
     path: &str,
-    magic: [u8; 8],
     old: Option<&Found>,
 ) -> Result<Option<D::File>, DiskFault>
     ensures stage { IfOk result (λ claimed. IfSome claimed (λ file. D.stage file ≡ Empty)) }
     ensures bytes { IfOk result (λ claimed. IfSome claimed (λ file. D.holds file ≡ D.unwritten)) }
     ensures beside { IfOk result (λ claimed. IfSome claimed (λ _. name.now ≢ path.now)) }
     ensures owned { IfOk result (λ claimed. IfSome claimed (λ _. D.answers (Owned name.now))) }
-    ensures free { IfOk result (λ claimed. IfSome claimed (λ _. MayClaim D.answers magic (option_copied old.entry) name.now)) }
-    ensures taken { IfOk result (λ claimed. IfNone claimed (IsTakenName D.answers magic path.now (option_copied old.entry) name.now)) }
+    ensures free { IfOk result (λ claimed. IfSome claimed (λ _. MayClaim D.answers (option_copied old.entry) name.now)) }
+    ensures taken { IfOk result (λ claimed. IfNone claimed (IsTakenName D.answers path.now (option_copied old.entry) name.now)) }
     ensures err { IfErr result (IsUnmade D.answers name.now) }
     ensures crash { D.history disk.new path.now ≡ D.history disk.old path.now }
 {
@@ -75,7 +76,7 @@ fn claim_name<D: Disk>(
         Ok(found) => {
             let runner = runner_of(disk);
             if is_left_over(&found, runner, old) {
-                take_over(disk, name, path, magic, old)
+                take_over(disk, name, path, old)
             } else {
                 Ok(None)
             }
@@ -146,19 +147,19 @@ fn hold<D: Disk>(disk: &mut D, file: &mut D::File, name: &str) -> Result<(), Dis
 }
 
 // Takes over what a save left: only once it is locked, and still the file of its name, which another save may have given
-// it a path under, and if it is empty or begins as a page file; `None` where it doesn't. Where there is no old file it is made anew, with the usual permissions.
+// it a path under, and if it is empty or marked as unfinished; `None` where it isn't. Where there is no old file it is made
+// anew, with the usual permissions.
 fn take_over<D: Disk>(
     disk: &mut D,
     name: &str,
     path: &str,
-    magic: [u8; 8],
     old: Option<&Found>,
 ) -> Result<Option<D::File>, DiskFault>
     requires { name.now ≢ path.now }
     ensures stage { IfOk result (λ taken. IfSome taken (λ file. D.stage file ≡ Empty)) }
     ensures bytes { IfOk result (λ taken. IfSome taken (λ file. D.holds file ≡ D.unwritten)) }
     ensures owned { IfOk result (λ taken. IfSome taken (λ _. D.answers (Owned name.now))) }
-    ensures begins { IfOk result (λ taken. IsOfASave D.answers magic name.now (is_some taken)) }
+    ensures begins { IfOk result (λ taken. IsOfASave D.answers name.now (is_some taken)) }
     ensures err { IfErr result (IsUnmade D.answers name.now) }
     ensures crash { SameBut name.now (D.history disk.old) (D.history disk.new) }
 {
@@ -169,7 +170,7 @@ fn take_over<D: Disk>(
         Err(error) => return Err(DiskFault::busy_at(ErrorKind::NotFound, Call::Make, error)),
     };
     own(disk, &mut file, name)?;
-    if !is_of_a_save(disk, name, magic)? {
+    if !is_of_a_save(disk, name)? {
         return Ok(None);
     }
     if old.is_none() {
@@ -184,25 +185,24 @@ fn take_over<D: Disk>(
     }
 }
 
-// Whether a file is empty or begins as a page file, as far as it goes.
-fn is_of_a_save<D: Disk>(disk: &mut D, name: &str, magic: [u8; 8]) -> Result<bool, DiskFault>
-    ensures begins { IfOk result (IsOfASave D.answers magic name.now) }
+// Whether a file is one that a save hasn't finished.
+fn is_of_a_save<D: Disk>(disk: &mut D, name: &str) -> Result<bool, DiskFault>
+    ensures begins { IfOk result (IsOfASave D.answers name.now) }
     ensures err { IfErr result (IsTold D.answers Make) }
     ensures crash { D.history disk.new ≡ D.history disk.old }
 {
     match disk.head(name) {
-        Ok(head) => Ok(begins_as(&head, magic)),
+        Ok(head) => Ok(is_unfinished(&head)),
         Err(error) if error.kind() == ErrorKind::PermissionDenied => Ok(false),
         Err(error) => Err(DiskFault::at(Call::Make, error)),
     }
 }
 
-// Whether a file begins so, as far as it goes.
-fn begins_as(head: &Head, magic: [u8; 8]) -> bool
-    ensures { IsTrue result ↔ BeginsAs head.now magic }
+// Whether a file is empty, or begins with the mark of one that isn't finished.
+fn is_unfinished(head: &Head) -> bool
+    ensures { IsTrue result ↔ IsUnfinished head.now }
 {
-    let len = head.found.size.min(8) as usize;
-    head.bytes[..len] == magic[..len]
+    head.found.size == 0 || head.bytes == UNFINISHED
 }
 
 // Makes a file in place of what a save left.

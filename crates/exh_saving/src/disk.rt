@@ -206,7 +206,8 @@ pub trait Disk {
         ensures bytes { holds file.new ≡ holds file.old }
         ensures crash { history self.new ≡ history self.old };
 
-    /// Hands out a file to be written to, behind what was written.
+    /// Hands out a file to be written to, behind what was written. In place of its first bytes there are those of `UNFINISHED`
+    /// until it gets its path.
     fn begin_writing(&mut self, file: Self::File) -> Self::Writer
         requires { is_fillable (stage file) ≡ true }
         ensures bytes { Self.Writer.contents result ≡ holds file }
@@ -227,7 +228,7 @@ pub trait Disk {
         ensures bytes { holds file.new ≡ holds file.old }
         ensures crash { history self.new ≡ history self.old };
 
-    /// Gives a file the path of another, which is locked.
+    /// Gives a file, with its first bytes, the path of another, which is locked.
     fn rename(
         &mut self,
         file: &mut Self::File,
@@ -246,7 +247,8 @@ pub trait Disk {
         ensures placed { OnOk result (history self.new path.now ≡ placed (history self.old path.now) (holds file.old)) }
         ensures crash { OnErr result (history self.new path.now ≡ history self.old path.now) };
 
-    /// Gives a file a path that nothing has, beside its name; `false` where the system has no links for it.
+    /// Gives a file, with its first bytes, a path that nothing has, beside its name; `false` where the system has no links for
+    /// it.
     fn link(&mut self, file: &mut Self::File, name: &str, path: &str) -> io::Result<bool>
         requires stage { stage file.old ≡ Confirmed }
         requires name { bears file.old name.now }

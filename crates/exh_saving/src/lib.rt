@@ -5,6 +5,7 @@
 //! the system's, or one in memory, which a test sets.
 #![tactic(auto)]
 
+pub use claiming::UNFINISHED;
 pub use disk::Disk;
 pub use fault::{Call, DiskFault};
 pub use folder::folder_of;

@@ -5,5 +5,6 @@ pub mod Fit
 pub mod Front
 pub mod SizeLimit
 pub mod Kind
+pub mod LogMode
 pub mod WardsFault
 pub mod SystemLimits

@@ -1,5 +1,5 @@
 -- The limit on the size of a file that a text of the system's tells, and how long a page file is.
-use Rattle.std.specs.Prelude.{◌≡◌, ◌<◌, ◌*◌, ℕ, ◌+◌, Bool, true, false, List, [], ◌∷◌, codes, drop, length, nat_eq, cond, Option, None}
+use Rattle.std.specs.Prelude.{⊤, ◌≡◌, ◌<◌, ◌*◌, ℕ, ◌+◌, Bool, true, false, List, [], ◌∷◌, codes, drop, length, nat_eq, cond, Option, None}
 use Rattle.std.specs.List.{starts_with, sum}
 use Rattle.exh_file.specs.TextLines.{is_empty, newline, parts_at, space}
 use Rattle.exh_file.specs.Numbers.{index_spelled}
@@ -7,6 +7,8 @@ use Rattle.exh_direct.specs.declared.Header.{Header}
 use Rattle.exh_direct.specs.PageFile.{table_blocks}
 use Rattle.exh_file.specs.Places.{end_block_of}
 use Rattle.exh_codec.specs.declared.block.TheConstants.{BLOCK_LEN}
+use Rattle.exh_system.specs.declared.in_place_fault.InPlaceFault.{InPlaceFault}
+use Rattle.exh_system.specs.declared.in_place_fault.InPlaceFault.TheVariants.{AboveLimit as AboveLimitFault, Memory, System}
 use Rattle.exh_system.specs.declared.size_limit.AboveLimit.{AboveLimit}
 
 -- the first word that isn't empty, or an empty one
@@ -43,3 +45,14 @@ len_told header false = BLOCK_LEN * blocks_told header
 pub record IsAbove (header : Header) (is_placed : Bool) (above : AboveLimit) : Type 0 where
   pub size : above.size ≡ len_told header is_placed
   pub more : above.limit < above.size
+
+-- the most bytes of a log of so many blocks: its header, a frame for each, and what it is made longer by at a time
+abbrev pub log_len : ℕ → ℕ
+log_len blocks = 32 + 4120 * blocks + 262144
+
+-- a limit isn't kept, or the system doesn't say how long a file is
+abbrev pub IsLimitFault : InPlaceFault → Type 0
+IsLimitFault (AboveLimitFault limit) = ⊤
+IsLimitFault (System error) = ⊤
+IsLimitFault Memory = ⊤
+IsLimitFault fault = ⊥

@@ -2,6 +2,7 @@
 ghost use Rattle.std.specs.Prelude.{IfErr, OnOk};
 ghost use Rattle.exh_system.specs.Fit.{HasShortName, IsUnfit};
 
+use crate::mount::is_mounted_alone;
 use crate::page_log::tells_of_none;
 use crate::{InPlaceFault, PageLog};
 use exh_codec::BLOCK_LEN;
@@ -32,7 +33,7 @@ pub fn is_at(rt: &HostRuntime, file: &File, whole: &str) -> io::Result<bool> {
 /// Sees that a file, which is locked and at its path without links, can be changed in place. Where its log has a change it
 /// may end amid a block, as the power may fail while the log is copied.
 ///
-/// `PartOfBlock`, `SecondName`, `LongName`, `Journal`: as they say. `System`: the system doesn't say what is there.
+/// `PartOfBlock`, `SecondName`, `Mounted`, `LongName`, `Journal`: as they say. `System`: the system doesn't say what is there.
 pub fn see_fit(rt: &HostRuntime, file: &File, whole: &str) -> Result<(), InPlaceFault>
     ensures ok { OnOk result (HasShortName whole.now) }
     ensures err { IfErr result (IsUnfit whole.now) }
@@ -43,6 +44,9 @@ pub fn see_fit(rt: &HostRuntime, file: &File, whole: &str) -> Result<(), InPlace
     }
     if about.nlink() != 1 {
         return Err(InPlaceFault::SecondName);
+    }
+    if is_mounted_alone(rt, file, whole) {
+        return Err(InPlaceFault::Mounted);
     }
     if file_name_of(whole).len() > NAME_LIMIT {
         return Err(InPlaceFault::LongName);

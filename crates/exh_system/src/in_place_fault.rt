@@ -21,6 +21,9 @@ pub enum InPlaceFault {
     /// The file has a second name, whose log would be another one.
     #[error("it has a second name (a hard link)")]
     SecondName,
+    /// The file is mounted by itself, and its log would stand in another folder.
+    #[error("it is mounted by itself, without its folder: change it in that")]
+    Mounted,
     /// There is no room for the name of its log.
     #[error("its name leaves no room for that of its log")]
     LongName,
@@ -42,12 +45,18 @@ pub enum InPlaceFault {
     /// The system lets no log be made in the file's folder.
     #[error("its folder lets no log be made there, of the same name with -wal behind it")]
     FolderDenied,
-    /// A new file would have the name of the log of the page file beside it.
-    #[error("its name is that of the log of the page file beside it: choose another one")]
-    LogName,
-    /// The log beside the file has changes of another file.
-    #[error("the log beside it, of the same name with -wal behind it, is another file's: remove it")]
+    /// A new file would have the name of the log of the page file beside it, or of an unfinished file of that.
+    #[error("its name is that of the log, or of an unfinished file, of the page file beside it: choose another one")]
+    NameBeside,
+    /// The file, or its log, would have more bytes than the system lets a file of this process have.
+    #[error("it, its log or its copy may come above the limit on the size of files, {limit} bytes")]
+    AboveLimit { limit: u64 },
+    /// The log beside the file isn't the file's.
+    #[error("the log beside it, of the same name with -wal behind it, isn't this file's: move it away, keep it, and try check")]
     OthersLog,
+    /// The blocks of the log beside the file and those of the file are together no list of blocks.
+    #[error("the log beside it, of the same name with -wal behind it, doesn't fit the file: move it away, keep it, and try check")]
+    UnfitLog,
     /// The file was changed again and again while it was read.
     #[error("it was being changed all the while")]
     Restless,

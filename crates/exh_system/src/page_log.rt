@@ -4,15 +4,12 @@ ghost use Rattle.std.specs.IoError.{error_kind};
 ghost use Rattle.std.specs.declared.io.ErrorKind.TheVariants.{OutOfMemory};
 ghost use Rattle.exh_system.specs.Fault.{TellsOfNone};
 
-use crate::front::begins_as_page_file;
-use crate::{InPlaceFault, open_regular};
+use crate::InPlaceFault;
 use std::fs::OpenOptions;
 use std::io::ErrorKind;
 use std::os::unix::fs::MetadataExt;
 use std::{fs, io};
 
-// What stands behind the name of a page file in that of its log.
-const SUFFIX: &str = "-wal";
 // A log of fewer bytes has no change: its header, and what shuts it.
 const LEAST: u64 = 56;
 
@@ -73,19 +70,6 @@ impl PageLog {
             Err(error) if tells_of_none(&error) => Ok(()),
             removed => removed,
         }
-    }
-}
-
-/// Whether a path has the name of the log of a page file that stands beside it.
-///
-/// An error: the system doesn't give the first bytes of what stands there.
-pub fn is_name_of_log(rt: &HostRuntime, path: &str) -> io::Result<bool> {
-    let Some(beside) = path.strip_suffix(SUFFIX) else {
-        return Ok(false);
-    };
-    match open_regular(rt, beside) {
-        Ok(file) => begins_as_page_file(&file),
-        Err(_) => Ok(false),
     }
 }
 

@@ -28,3 +28,11 @@ pub fn tell_reason(rt: &impl Eprint, what: &str, reason: &Reason) {
         let _ = eprintln!(rt; "exhash: {what}: {error}");
     }
 }
+
+/// Says that the header of a page file is damaged, which is read with the log beside it all the same.
+pub fn tell_damaged_header(rt: &impl Eprint, path: &str) {
+    let path = Escaped(path);
+    let _ = eprintln!(rt;
+        "exhash: {path}: its header is damaged: it is read with the log beside it, which is not copied into it"
+    );
+}

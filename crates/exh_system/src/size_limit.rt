@@ -1,13 +1,14 @@
 //! The system's limit on the size of a file, which a save must not come to.
-ghost use Rattle.std.specs.Prelude.{◌≡◌, ◌≤◌, ◌*◌, ◌^◌, IfNone, IfSome, Some};
+ghost use Rattle.std.specs.Prelude.{◌≡◌, ◌≤◌, ◌*◌, ◌+◌, ◌^◌, ◌↔◌, IfErr, IfNone, IfSome, IsTrue, Some};
 ghost use Rattle.std.specs.List.{sum};
 ghost use Rattle.exh_codec.specs.declared.block.TheConstants.{BLOCK_LEN};
-ghost use Rattle.exh_system.specs.SizeLimit.{IsAbove, blocks_told, first_word, len_told, limit_told, placed_blocks};
+ghost use Rattle.exh_system.specs.SizeLimit.{IsAbove, IsLimitFault, blocks_told, first_word, len_told, limit_told, log_len, placed_blocks};
 
-use crate::open_above;
+use crate::{InPlaceFault, open_above};
 use exh_codec::BLOCK_LEN;
 use exh_direct::{BLOCK_ENTRIES, Header};
 use exh_file::{GROUP_PAGES, Parts, parse_u64};
+use std::fs::File;
 use std::io::Read;
 use std::{fs, io};
 use thiserror::Error;
@@ -16,6 +17,13 @@ use thiserror::Error;
 const LIMITS: &str = "/proc/self/limits";
 
 const LIMITS_LEN: usize = 4096;
+
+// The bytes of a log's header, of a block in it, and those by which it is made longer at a time.
+const LOG_HEADER: u64 = 32;
+
+const FRAME_LEN: u64 = 4120;
+
+const LOG_PADDING: u64 = 262_144;
 
 // How the line of the greatest size of a file begins.
 const FILE_SIZE: &[u8] = b"Max file size ";
@@ -58,6 +66,52 @@ pub fn above_limit(limit: Option<u64>, header: &Header, is_placed: bool) -> Opti
     }
 }
 
+/// Sees that a change of an open page file, which writes at most so many blocks, each maybe a new one, keeps file and log
+/// within the system's limit, where it tells one.
+///
+/// `AboveLimit`: it may not. `System`: the system doesn't say how long the file is.
+pub fn see_room(rt: &HostRuntime, file: &File, whole: &str, blocks: u32) -> Result<(), InPlaceFault>
+    ensures { IfErr result IsLimitFault }
+{
+    let Some(limit) = file_size_limit(rt, whole) else {
+        return Ok(());
+    };
+    if has_room(limit, file.metadata()?.len(), blocks) {
+        Ok(())
+    } else {
+        Err(InPlaceFault::AboveLimit { limit })
+    }
+}
+
+/// Sees that a copy of an open file at a new path is within the system's limit, where it tells one.
+///
+/// Errors: as of `see_room`.
+pub fn see_room_for_copy(rt: &HostRuntime, file: &File, new: &str) -> Result<(), InPlaceFault>
+    ensures { IfErr result IsLimitFault }
+{
+    match file_size_limit(rt, new) {
+        Some(limit) if file.metadata()?.len() > limit => Err(InPlaceFault::AboveLimit { limit }),
+        _ => Ok(()),
+    }
+}
+
+// Whether a file of so many bytes that gets so many blocks more, and a log of as many, are within a limit.
+fn has_room(limit: u64, len: u64, blocks: u32) -> bool
+    ensures { IsTrue result ↔ (len + BLOCK_LEN * blocks ≤ limit) × (log_len blocks ≤ limit) }
+{
+    match limit.checked_sub(len) {
+        Some(room) => BLOCK_LEN as u64 * u64::from(blocks) <= room && log_len(blocks) <= limit,
+        None => false,
+    }
+}
+
+// How many bytes a log of so many blocks has at most.
+fn log_len(blocks: u32) -> u64
+    ensures { result ≡ log_len blocks }
+{
+    LOG_HEADER + FRAME_LEN * u64::from(blocks) + LOG_PADDING
+}
+
 // Whether something is at a path that is no regular file.
 fn is_no_regular(rt: &HostRuntime, path: &str) -> bool {
     match fs::metadata(rt, path) {
@@ -86,8 +140,8 @@ fn limit_told(text: &[u8]) -> Option<u64>
     None
 }
 
-// The first word of a line, empty where it has none.
-fn first_word(line: &[u8]) -> &[u8]
+/// The first word of a line, empty where it has none.
+pub(crate) fn first_word(line: &[u8]) -> &[u8]
     ensures { result.now ≡ first_word line.now }
 {
     for word in Parts::new(b' ', line) {

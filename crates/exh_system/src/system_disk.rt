@@ -6,6 +6,7 @@ ghost use Rattle.exh_saving.specs.Seen.{IsSeenAt};
 use crate::found::found_of;
 use crate::lock_way::{LockWay, WAIT, lock_within};
 use crate::opening::{open_above, open_with};
+use crate::unfinished::{FirstBytes, UnfinishedFile};
 use exh_saving::{Disk, Found, Head, Kind, Runner, Seen, Stage, folder_of};
 use std::alloc::Global;
 use std::fs::{File, OpenOptions, Permissions};
@@ -23,6 +24,7 @@ pub struct SystemDisk<'r> {
 #[derive(Drop)]
 pub struct SystemFile {
     file: File,
+    first: FirstBytes,
     stage: Stage,
     name: String,
     has_name: bool,
@@ -58,7 +60,7 @@ impl<'r> SystemDisk<'r> {
 impl Disk for SystemDisk<'_> {
     type File = SystemFile;
 
-    type Writer = File;
+    type Writer = UnfinishedFile;
 
     type Opened = File;
 
@@ -166,6 +168,7 @@ impl Disk for SystemDisk<'_> {
         let file = open_with(self.rt, &options, name)?;
         Ok(SystemFile {
             file,
+            first: FirstBytes::none(),
             stage: Stage::Made,
             name: String::new(self.rt.alloc()),
             has_name: false,
@@ -178,6 +181,7 @@ impl Disk for SystemDisk<'_> {
         let file = open_with(self.rt, &options, name)?;
         Ok(SystemFile {
             file,
+            first: FirstBytes::none(),
             stage: Stage::Left,
             name: String::new(self.rt.alloc()),
             has_name: false,
@@ -226,13 +230,17 @@ impl Disk for SystemDisk<'_> {
         Ok(())
     }
 
-    fn begin_writing(&mut self, file: SystemFile) -> File {
-        file.file
+    fn begin_writing(&mut self, file: SystemFile) -> UnfinishedFile {
+        UnfinishedFile {
+            file: file.file,
+            first: file.first,
+        }
     }
 
-    fn end_writing(&mut self, writer: File) -> SystemFile {
+    fn end_writing(&mut self, writer: UnfinishedFile) -> SystemFile {
         SystemFile {
-            file: writer,
+            file: writer.file,
+            first: writer.first,
             stage: Stage::Written,
             name: String::new(self.rt.alloc()),
             has_name: false,
@@ -252,6 +260,7 @@ impl Disk for SystemDisk<'_> {
         path: &str,
         _held: &SystemHeld,
     ) -> io::Result<()> {
+        file.first.put(&file.file)?;
         fs::rename(self.rt, name, path)?;
         file.stage = Stage::Placed;
         Ok(())
@@ -259,6 +268,7 @@ impl Disk for SystemDisk<'_> {
 
     // A system that has no links for a file denies them, or knows no such call.
     fn link(&mut self, file: &mut SystemFile, name: &str, path: &str) -> io::Result<bool> {
+        file.first.put(&file.file)?;
         match fs::hard_link(self.rt, name, path) {
             Ok(()) => {
                 file.stage = Stage::Linked;
@@ -280,6 +290,7 @@ impl Disk for SystemDisk<'_> {
     }
 
     fn rename_new(&mut self, file: &mut SystemFile, name: &str, path: &str) -> io::Result<()> {
+        file.first.put(&file.file)?;
         fs::rename(self.rt, name, path)?;
         file.stage = Stage::Placed;
         Ok(())

@@ -14,12 +14,12 @@ use Rattle.exh_import.specs.declared.imported_store.Added.{Added}
 use Rattle.exh_import.specs.declared.imported_store.Added.TheVariants.{Put, Full}
 use Rattle.exh_import.specs.declared.options.ImportOptions.{ImportOptions}
 use Rattle.exh_import.specs.declared.rejection.Rejection.{Rejection}
-use Rattle.exh_import.specs.Counting.{closed, first_opening, full_counted, is_due, is_right_end, line_counted, lines_begun, opened, pair_counted, rested, starts, told_lines}
-use Rattle.exh_import.specs.Imports.{Answered, FinishesWhere, Imports, Marks, Point, Puts, SavesWhere, TakesAmid, TakesLine, TakesLines, TakesRead, TakesText}
+use Rattle.exh_import.specs.Counting.{closed, ended, first_opening, full_counted, is_due, is_right_end, line_counted, lines_begun, opened, pair_counted, rested, starts, told_lines}
+use Rattle.exh_import.specs.Imports.{Answered, Finishes, FinishesWhere, Imports, Marks, Point, Puts, SavesWhere, TakesAmid, TakesLine, TakesLines, TakesRead, TakesText}
 use Rattle.exh_import.specs.Pairs.{all_but_last, read_of}
 use Rattle.exh_transfer.specs.Laws.{AreExported, ArePairs, AreUsual, ExportsAreWhole, IsWhole}
 use Rattle.exh_transfer.proofs.Ends.{end_read, end_text, opening_read}
-use Rattle.exh_transfer.proofs.Exported.{AreEach, all_but, count_lines, end_as, opening_as, each_of, export_lines, exported_lines, pair_lines, pair_read, read_usual}
+use Rattle.exh_transfer.proofs.Exported.{AreEach, all_but, count_lines, end_as, opening_as, each_of, export_lines, exported_lines, is_whole, pair_lines, pair_read, read_usual}
 use Rattle.exh_transfer.proofs.Amid.{ArePairLines, Stands, are_pair_lines, end_marks, export_parts, front_lines, opened_stands, opening_marks, pair_line, same_stands, several, start_stands, starting}
 
 right_end : (imported : Imported) (count : ℕ) → imported.rejected ≡ 0 → imported.pairs + imported.full ≡ count → count < 2 ^ 64 → not (is_right_end (told_lines imported) (End count)) ≡ false
@@ -75,8 +75,9 @@ module _ {S L : Type 0} (gives : S → List ℕ → List ℕ → Added → S →
         (opening_as law options are_usual) (end_as law options are_usual (length pairs) are_pairs.few ∙ ap (λ (n : ℕ). End n) (sym count)) (are_pair_lines law options are_usual pairs (each_of pairs are_pairs)) takes)
 
   pub exports_are_whole : PairsAreRead → PairsAreOneLine → ExportsAreWhole gives saves rests told
-  exports_are_whole read_law line_law options bare pairs lines store store' listener listener' imported exported imports =
+  exports_are_whole read_law line_law options bare pairs lines whole store store' listener listener' imported exported ends imports =
+      let finishes = subst (λ (b : Bool). Finishes saves (ended b imports.next.taking) imports.next.store imported store') (is_whole line_law options bare pairs lines whole exported ends) imports.finishes in
       let takes = subst (λ (ls : List (List ℕ)). TakesText gives saves rests told ls (starting gives saves rests told options store listener) imports.next)
       (exported_lines line_law options bare pairs lines exported) imports.takes in
-      finished options _ (length pairs) imports.next.taking imports.next.store store' imported imports.finishes
+      finished options _ (length pairs) imports.next.taking imports.next.store store' imported finishes
       (lines_whole options read_law bare pairs store listener imports.next exported.usual_are exported.pairs_are takes)

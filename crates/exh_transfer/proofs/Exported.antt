@@ -16,11 +16,11 @@ use Rattle.exh_import.specs.declared.begun.Begun.{Begun}
 use Rattle.exh_import.specs.declared.options.ImportOptions.{ImportOptions}
 use Rattle.exh_import.specs.Causes.{AreWholeLines, IsWholeLine, whole_line, whole_lines}
 use Rattle.exh_import.specs.Counting.{first_opening, lines_begun}
-use Rattle.exh_import.specs.Imports.{IsTextOf}
+use Rattle.exh_import.specs.Imports.{EndsSo, IsTextOf}
 use Rattle.exh_import.specs.Pairs.{all_but_last, pair_of, pairs_of, pairs_of_text, pairs_of_whole, pairs_put, read_of}
 use Rattle.exh_import.proofs.Texts.{lines_end}
 use Rattle.exh_transfer.specs.Exports.{export_text, line_of_pair}
-use Rattle.exh_transfer.specs.Laws.{AreExported, ArePairs, AreUsual, ExportsAreImported, ExportsHaveLines}
+use Rattle.exh_transfer.specs.Laws.{AreExported, ArePairs, AreUsual, ExportsAreImported, ExportsHaveLines, printed_for}
 use Rattle.exh_transfer.proofs.Ends.{end_is, end_read, end_text, end_whole, opening_read, opening_whole}
 use Rattle.exh_transfer.proofs.TextLines.{lines_are}
 
@@ -75,6 +75,11 @@ exported_lines law options bare pairs lines exported =
     lines_are options.format (export_lines options.format options.is_hex bare pairs) lines
     (lines_whole law options.format options.is_hex bare pairs (each_of pairs exported.pairs_are) exported.pairs_are.few)
     (subst (IsTextOf options.format lines) (text_is options.format options.is_hex bare pairs) exported.text)
+
+-- each of them has its newline
+pub is_whole : PairsAreOneLine → (options : ImportOptions) (bare : Bool) (pairs : List (List ℕ × List ℕ)) (lines : List (List ℕ)) (whole : Bool) → AreExported options bare pairs lines → EndsSo whole lines (printed_for options bare pairs) → whole ≡ true
+is_whole law options bare pairs lines true exported ends = refl
+is_whole law options bare pairs lines false exported ends = absurd (ends (text_is options.format options.is_hex bare pairs ∙ ap whole_lines (sym (exported_lines law options bare pairs lines exported))))
 
 pub count_lines : (format : PairFormat) (hex : Bool) (pairs : List (List ℕ × List ℕ)) → length (pair_lines format hex pairs) ≡ length pairs
 count_lines format hex pairs = length-map pairs (λ (pair : List ℕ × List ℕ). pair_words format hex pair.0 pair.1)

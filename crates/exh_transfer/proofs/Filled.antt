@@ -21,14 +21,14 @@ use Rattle.exh_import.specs.declared.imported_store.Added.{Added}
 use Rattle.exh_import.specs.declared.imported_store.Added.TheVariants.{Put, Full}
 use Rattle.exh_import.specs.declared.options.ImportOptions.{ImportOptions}
 use Rattle.exh_import.specs.declared.rejection.Rejection.{Rejection}
-use Rattle.exh_import.specs.Counting.{full_counted, is_due, line_counted, pair_counted, rested}
-use Rattle.exh_import.specs.Imports.{Answered, FinishesWhere, Imports, Point, Puts, RestsWhere, SavesWhere, TakesLine, TakesLines, TakesText}
+use Rattle.exh_import.specs.Counting.{ended, full_counted, is_due, line_counted, pair_counted, rested}
+use Rattle.exh_import.specs.Imports.{Answered, EndsSo, Finishes, FinishesWhere, Imports, Point, Puts, RestsWhere, SavesWhere, TakesLine, TakesLines, TakesText}
 use Rattle.exh_import.specs.Pairs.{pair_of, pairs_of, read_of}
 use Rattle.exh_map.specs.Pairs.{AreOnce}
-use Rattle.exh_transfer.specs.Laws.{AreExported, ArePairs, AreUsual}
+use Rattle.exh_transfer.specs.Laws.{AreExported, ArePairs, AreUsual, printed_for}
 use Rattle.exh_transfer.proofs.Amid.{ArePairLines, IsPairLine, Stands, are_pair_lines, closes_not, end_marks, export_parts, front_lines, line_puts, opened_stands, opening_marks, pair_line, several, start_stands, starting}
 use Rattle.exh_transfer.proofs.Ends.{end_text}
-use Rattle.exh_transfer.proofs.Exported.{count_lines, each_of, end_as, export_lines, exported_lines, opening_as, pair_lines, pairs_again}
+use Rattle.exh_transfer.proofs.Exported.{count_lines, each_of, end_as, export_lines, exported_lines, is_whole, opening_as, pair_lines, pairs_again}
 
 abbrev KeyValue : Type 0
 KeyValue = List ℕ × List ℕ
@@ -172,11 +172,12 @@ module _ {S L : Type 0} (gives : S → List ℕ → List ℕ → Added → S →
           (export_fills (opening_text options.format) (end_text options.format (length pairs)) options.format (length pairs) lines store listener new (omega (arith, count_lines options.format options.is_hex pairs, are_pairs.few)) are_usual
           (opening_as law options are_usual) (end_as law options are_usual (length pairs) are_pairs.few) (are_pair_lines law options are_usual pairs (each_of pairs are_pairs)) (subst AreOnce (sym again) once) holds takes)
 
-    pub filled : PairsAreRead → PairsAreOneLine → (options : ImportOptions) (bare : Bool) (pairs : List KeyValue) (lines : List (List ℕ)) (store store' : S) (listener listener' : L) (imported : Imported)
+    pub filled : PairsAreRead → PairsAreOneLine → (options : ImportOptions) (bare : Bool) (pairs : List KeyValue) (lines : List (List ℕ)) (whole : Bool) (store store' : S) (listener listener' : L) (imported : Imported)
         → (options.is_atomic ≡ true) ⊎ ((whole : KeyMap) (old new : S) → has old whole → rests old new → has new whole) → AreExported options bare pairs lines → AreOnce pairs → has store fin.empty
-        → Imports gives saves rests told options lines store listener imported store' listener' → imported.full ≡ 0 → has store' (fin.from_entries pairs)
-    filled read_law line_law options bare pairs lines store store' listener listener' imported kept_behind exported once holds imports none =
+        → EndsSo whole lines (printed_for options bare pairs) → Imports gives saves rests told options whole lines store listener imported store' listener' → imported.full ≡ 0 → has store' (fin.from_entries pairs)
+    filled read_law line_law options bare pairs lines whole store store' listener listener' imported kept_behind exported once holds ends imports none =
+        let finishes = subst (λ (b : Bool). Finishes saves (ended b imports.next.taking) imports.next.store imported store') (is_whole line_law options bare pairs lines whole exported ends) imports.finishes in
         let takes = subst (λ (ls : List (List ℕ)). TakesText gives saves rests told ls (starting gives saves rests told options store listener) imports.next)
         (exported_lines line_law options bare pairs lines exported) imports.takes in
-        finished options kept_behind _ (all_of pairs) imports.next.taking imports.next.store store' imported imports.finishes
+        finished options kept_behind _ (all_of pairs) imports.next.taking imports.next.store store' imported finishes
         (lines_filled options kept_behind read_law bare pairs store listener imports.next exported.usual_are exported.pairs_are once holds takes) none

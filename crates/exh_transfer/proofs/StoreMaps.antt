@@ -44,6 +44,6 @@ module _ {S L : Type 0} (gives : S → List ℕ → List ℕ → Added → S →
   kept_behind options held (inr keeps) = inr (λ whole old new holds rest. kept whole (held old) (held new) holds (keeps old new rest))
 
   pub exports_give_their_map : PairsAreRead → PairsAreOneLine → ExportsGiveTheirMap gives saves rests told
-  exports_give_their_map read_law line_law held options bare pairs lines store store' listener listener' imported one alone exported once holds imports none =
+  exports_give_their_map read_law line_law held options bare pairs lines whole store store' listener listener' imported one alone exported once holds ends imports none =
       filled gives saves rests told (λ s whole. HasMapHeld (held s) whole) (λ whole old new key value has given. put_in whole (held old) (held new) key value has (one.puts old new key value added.Put given))
-      (λ whole old new has saved. kept whole (held old) (held new) has (one.commits old new saved)) read_law line_law options bare pairs lines store store' listener listener' imported (kept_behind options held alone) exported once holds imports none
+      (λ whole old new has saved. kept whole (held old) (held new) has (one.commits old new saved)) read_law line_law options bare pairs lines whole store store' listener listener' imported (kept_behind options held alone) exported once holds ends imports none

@@ -13,7 +13,7 @@ use Rattle.exh_import.specs.declared.imported.Imported.{Imported}
 use Rattle.exh_import.specs.declared.imported_store.Added.{Added}
 use Rattle.exh_import.specs.declared.options.ImportOptions.{ImportOptions}
 use Rattle.exh_import.specs.declared.rejection.Rejection.{Rejection}
-use Rattle.exh_import.specs.Imports.{Imports, IsTextOf}
+use Rattle.exh_import.specs.Imports.{EndsSo, Imports, IsTextOf}
 use Rattle.exh_import.specs.Pairs.{ArePut, pairs_put}
 use Rattle.exh_compact.specs.FileChange.{HasMap}
 use Rattle.exh_compact.specs.Opened.{settings_in}
@@ -59,8 +59,8 @@ pub record IsWhole (count : ℕ) (imported : Imported) : Type 0 where
 -- into any store
 module _ {S L : Type 0} (gives : S → List ℕ → List ℕ → Added → S → Type 0) (saves rests : S → S → Type 0) (told : L → ℕ → Rejection → List ℕ → L → Type 0) where
   abbrev pub ExportsAreWhole : Type 0
-  ExportsAreWhole = (options : ImportOptions) (bare : Bool) (pairs : List (List ℕ × List ℕ)) (lines : List (List ℕ)) (store store' : S) (listener listener' : L) (imported : Imported) → AreExported options bare pairs lines
-      → Imports gives saves rests told options lines store listener imported store' listener' → IsWhole (length pairs) imported
+  ExportsAreWhole = (options : ImportOptions) (bare : Bool) (pairs : List (List ℕ × List ℕ)) (lines : List (List ℕ)) (whole : Bool) (store store' : S) (listener listener' : L) (imported : Imported) → AreExported options bare pairs lines
+      → EndsSo whole lines (printed_for options bare pairs) → Imports gives saves rests told options whole lines store listener imported store' listener' → IsWhole (length pairs) imported
 
 -- the store that is held has this map
 abbrev pub HasMapHeld : Option Store → KeyMap → Type 0
@@ -83,8 +83,8 @@ module _ {S L : Type 0} (gives : S → List ℕ → List ℕ → Added → S →
 
   -- a store without pairs has the map of those that were exported, where no key stands twice among them and none found no room
   abbrev pub ExportsGiveTheirMap : Type 0
-  ExportsGiveTheirMap = (held : S → Option Store) (options : ImportOptions) (bare : Bool) (pairs : List (List ℕ × List ℕ)) (lines : List (List ℕ)) (store store' : S) (listener listener' : L) (imported : Imported) → HoldsOneMap gives saves held → IsAlone options held
-      → AreExported options bare pairs lines → AreOnce pairs → HasMapHeld (held store) empty → Imports gives saves rests told options lines store listener imported store' listener' → imported.full ≡ 0 → HasMapHeld (held store') (from_entries pairs)
+  ExportsGiveTheirMap = (held : S → Option Store) (options : ImportOptions) (bare : Bool) (pairs : List (List ℕ × List ℕ)) (lines : List (List ℕ)) (whole : Bool) (store store' : S) (listener listener' : L) (imported : Imported) → HoldsOneMap gives saves held → IsAlone options held
+      → AreExported options bare pairs lines → AreOnce pairs → HasMapHeld (held store) empty → EndsSo whole lines (printed_for options bare pairs) → Imports gives saves rests told options whole lines store listener imported store' listener' → imported.full ≡ 0 → HasMapHeld (held store') (from_entries pairs)
 
 -- ---- any import
 

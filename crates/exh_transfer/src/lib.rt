@@ -6,12 +6,13 @@ pub use compacting::compact;
 pub use counting::stats;
 pub use exh_map::{Put, PutNew, Reading, StoreError, Swap};
 pub use exh_run::{
-    BackupFault, Direct, Ending, FileBlocks, FileWards, HeldFile, INPUT, JobPath, MAKER,
-    OUT_OF_MEMORY, OtherSettings, Reason, Run, Settings, Status, Store, Topic, backup_within,
-    console, convert, find_any, input_keys, input_value, is_nothing_at, load, made_status, make,
-    opened_at, path_of, pause_after, print_last, print_line, print_out_of_memory, read_beside,
-    refuse_change, refuse_reading, save, save_new, save_of_job, tell_absent, tell_line, tell_path,
-    tell_reason, tell_refused, tell_text, unread_at, warn, with_reason,
+    BackupFault, BytesBlocks, Direct, Ending, FileBlocks, FileWards, HeldFile, INPUT, JobPath,
+    MAKER, OUT_OF_MEMORY, OtherSettings, Reason, Run, Settings, Status, Store, Topic,
+    backup_within, console, convert, find_any, input_keys, input_value, is_nothing_at, load,
+    made_status, make, opened_at, path_of, pause_after, print_last, print_line,
+    print_out_of_memory, read_beside, refuse_change, refuse_reading, save, save_new, save_of_job,
+    tell_absent, tell_line, tell_path, tell_reason, tell_refused, tell_text, unread_at, warn,
+    with_reason,
 };
 pub use exporting::export;
 pub use importing::import;

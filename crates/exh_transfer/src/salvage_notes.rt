@@ -29,7 +29,7 @@ fn tell_log(run: &Run<'_>) {
         let path = Escaped(run.path);
         let log = Escaped(log.path());
         let _ = eprintln!(run.rt;
-            "exhash: {path}: a log stands beside it, {log}, and is not read: `exhash check` copies a whole one into the file"
+            "exhash: {path}: a log stands beside it, {log}, and is not read: `exhash backup` makes a copy that has what a whole one has"
         );
     }
 }

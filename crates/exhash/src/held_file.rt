@@ -14,7 +14,7 @@ use exh_frames::FileStore;
 use exh_map::{
     Draft, FileForm, FileMap, Opened, OpenedFile, PlacedForm, Stamps, StoreError, SystemDisk,
     SystemFile, WAIT, above_limit, answer_in_place, draw_stamp, file_size_limit, front_of, is_at,
-    lock_soon, open_above, opened_at, recover_at, save_in_place,
+    lock_soon, open_above, opened_at, recover_at, save_in_place, see_no_log,
 };
 use exh_saving::{DiskFault, Saved};
 use std::fs::File;
@@ -119,7 +119,8 @@ impl HeldFile {
         }
     }
 
-    /// Replaces the file by a new one of version 3, of these wards, and lets it go.
+    /// Replaces the file by a new one of version 3, of these wards, and lets it go. Of version 1 or 2 it must have no log
+    /// beside it.
     ///
     /// `Vanished`: it is no longer at its path. `AboveLimit`: the new one would be longer than the system lets it be.
     /// `Unsynchronized`: it is saved, but a power failure may take it back. Others: nothing was saved, as they say.
@@ -127,6 +128,9 @@ impl HeldFile {
         ensures { IfErr result IsOfSaving }
     {
         self.see_there(rt)?;
+        if let FileForm::Plain = &self.form {
+            see_no_log(rt, &self.path)?;
+        }
         if let Some(above) = above_limit(file_size_limit(rt, &self.path), &wards.header(), true) {
             return Err(StoreError::AboveLimit(above));
         }

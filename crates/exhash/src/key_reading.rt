@@ -3,7 +3,7 @@ ghost use Rattle.std.specs.Prelude.{⊤};
 ghost use Rattle.exhash.specs.AnyAnswer.{IsOfLegal};
 
 use crate::find_any;
-use exh_map::{Blocks, DirectFault, FileBlocks, Reading, Reason, with_reason};
+use exh_map::{Blocks, BytesBlocks, DirectFault, FileBlocks, Reading, Reason, with_reason};
 use exh_page::{Key, Value};
 use std::alloc::Global;
 use std::fs::File;
@@ -38,5 +38,10 @@ impl Reading for KeyReading<'_> {
             Ok(mut blocks) => self.find_in(&mut blocks),
             Err(_) => Err(DirectFault::Read),
         }
+    }
+
+    fn read_bytes(&mut self, bytes: &[u8]) -> Result<Option<Value>, DirectFault> {
+        self.reason.set(None);
+        self.find_in(&mut BytesBlocks::new(bytes))
     }
 }

@@ -8,7 +8,8 @@ ghost use Rattle.exhash.specs.Store.{IsOfFile, IsOfMaking, IsOfNew};
 use exh_frames::{FileStore, MAKER};
 use exh_map::{
     Draft, InPlaceFault, NAME_LIMIT, Opened, OpenedFile, Settings, Stamps, StoreError, SystemDisk,
-    SystemFile, draw_stamp, is_name_of_log, new_wards, open_above, save_at,
+    SystemFile, above_limit, draw_stamp, file_size_limit, is_name_beside, new_wards, open_above,
+    save_at, see_no_log,
 };
 use exh_saving::{Saved, file_name_of};
 use exh_stream::{Console, Meter, Unit, Work};
@@ -20,13 +21,13 @@ use std::{fs, io};
 /// file may be left.
 ///
 /// `Settings`: these are no file's. `Exists`: something is there. `Unsynchronized`: it is made, but a power failure may take it
-/// away. `Unfit` with `LongName`: its name leaves no room for that of its log; with `LogName`: it is that of the log of a page
+/// away. `Unfit` with `LongName`: its name leaves no room for that of its log; with `NameBeside`: it is that of the log of a page
 /// file. Others: it isn't made, as they say.
 pub fn make(rt: &HostRuntime, path: &str, settings: Settings) -> Result<(), StoreError>
     ensures settings { (AreInRange settings → ⊥) → result ≡ Err SettingsFault }
     ensures refused { IfErr result (IsOfMaking settings) }
 {
-    let draft = empty_draft(rt, settings)?;
+    let draft = empty_draft(rt, path, settings)?;
     let claimed = claim(rt, path)?;
     let seen = SystemDisk::new(rt).seen(path, claimed)?;
     match save_draft(rt, path, Some(&seen), draft) {
@@ -37,7 +38,11 @@ pub fn make(rt: &HostRuntime, path: &str, settings: Settings) -> Result<(), Stor
 }
 
 // The draft of a file without pairs.
-fn empty_draft(rt: &HostRuntime, settings: Settings) -> Result<Draft<FileStore>, StoreError>
+fn empty_draft(
+    rt: &HostRuntime,
+    path: &str,
+    settings: Settings,
+) -> Result<Draft<FileStore>, StoreError>
     ensures settings { (AreInRange settings → ⊥) → result ≡ Err SettingsFault }
     ensures refused { IfErr result (IsOfNew settings) }
 {
@@ -45,7 +50,11 @@ fn empty_draft(rt: &HostRuntime, settings: Settings) -> Result<Draft<FileStore>,
         return Err(StoreError::Settings);
     }
     let wards = new_wards(rt.alloc(), &MAKER, settings)?;
-    draft_anew(rt, Opened::new(settings, wards))
+    let opened = Opened::new(settings, wards);
+    if let Some(above) = above_limit(file_size_limit(rt, path), &opened.header(), true) {
+        return Err(StoreError::AboveLimit(above));
+    }
+    draft_anew(rt, opened)
 }
 
 /// The draft of a new file of version 3 of wards, with stamps of its own.
@@ -71,9 +80,10 @@ fn claim(rt: &HostRuntime, path: &str) -> Result<File, StoreError>
     if file_name_of(path).len() > NAME_LIMIT {
         return Err(StoreError::Unfit(InPlaceFault::LongName));
     }
-    if is_name_of_log(rt, path)? {
-        return Err(StoreError::Unfit(InPlaceFault::LogName));
+    if is_name_beside(rt, path)? {
+        return Err(StoreError::Unfit(InPlaceFault::NameBeside));
     }
+    see_beside(rt, path)?;
     let mut options = OpenOptions::new();
     options.write(true).create_new(true);
     match options.open(rt, path) {
@@ -92,6 +102,16 @@ fn claim(rt: &HostRuntime, path: &str) -> Result<File, StoreError>
         return Err(StoreError::Unfit(InPlaceFault::LongName));
     }
     Ok(claimed)
+}
+
+// Sees that a new file would have no log beside it, unless something is there already.
+fn see_beside(rt: &HostRuntime, path: &str) -> Result<(), StoreError>
+    ensures { IfErr result (λ fault. (fault ≡ Exists) ⊎ IsOfCause fault) }
+{
+    if fs::symlink_metadata(rt, path).is_ok() {
+        see_empty(rt, path)?;
+    }
+    Ok(see_no_log(rt, path)?)
 }
 
 // Sees that what is there is an empty file. A link that leads to nothing is something.

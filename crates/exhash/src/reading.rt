@@ -23,6 +23,20 @@ pub fn read_whole(alloc: Global, file: &File) -> Result<(Opened<FileStore>, File
     }
 }
 
+/// The same of the bytes of a page file in memory.
+pub fn read_whole_bytes(
+    alloc: Global,
+    bytes: &[u8],
+) -> Result<(Opened<FileStore>, FileForm), StoreError>
+    ensures { IfErr result IsOfCause }
+{
+    let mut reader = bytes;
+    match open_form(alloc, &mut reader) {
+        Ok(found) => Ok(found),
+        Err(fault) => Err(StoreError::of_opening(fault, None)),
+    }
+}
+
 /// Why the file of a path isn't read: that it isn't there, or has no bytes; else this cause.
 pub(crate) fn unread(rt: &HostRuntime, path: &str, cause: StoreError) -> StoreError
     ensures { IsOther cause → IsOther result }
@@ -46,6 +60,10 @@ impl Reading for WholeReading {
 
     fn read(&mut self, file: &File) -> Result<(Opened<FileStore>, FileForm), StoreError> {
         read_whole(self.alloc, file)
+    }
+
+    fn read_bytes(&mut self, bytes: &[u8]) -> Result<(Opened<FileStore>, FileForm), StoreError> {
+        read_whole_bytes(self.alloc, bytes)
     }
 }
 

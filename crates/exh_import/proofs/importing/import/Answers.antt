@@ -1,4 +1,4 @@
-use Rattle.std.proofs.Common.{◌≡◌, refl, sym, ◌∙◌, subst, length}
+use Rattle.std.proofs.Common.{◌≡◌, refl, sym, ◌∙◌, subst, length, true}
 use Rattle.exh_import.specs.declared.taking.Taking.{Taking}
 use Rattle.exh_import.specs.Causes.{IsCause}
 use Rattle.exh_import.specs.Counting.{starts}
@@ -23,7 +23,7 @@ lines-init g c =
     record {
       same_reader = c.in_ok-is_over.ensures.same_reader;
       ends = c.in_ok-is_over.ensures.ends;
-      over = λ is. subst (λ (t : Taking). IsWhole G V W T c.args.options.now.format R known start (record { taking = t; store = c.args.store.now; listener = c.args.listener.now })) (sym c.new-taking.ensures) (whole_start G V W T c.args.options.now.format R known start now kept c.in_ok-is_over.ensures.ends (c.in_ok-is_over.ensures.over is));
+      over = λ is. subst (λ (t : Taking). IsWhole G V W T c.args.options.now.format R known start true (record { taking = t; store = c.args.store.now; listener = c.args.listener.now })) (sym c.new-taking.ensures) (whole_start G V W T c.args.options.now.format R known start now kept c.in_ok-is_over.ensures.ends (c.in_ok-is_over.ensures.over is));
       amid = λ is. (
         c.in_ok-is_over.ensures.some is,
         subst (λ (t : Taking). (amid : IsAmid G V W T c.args.options.now.format R known start now (record { taking = t; store = c.args.store.now; listener = c.args.listener.now })) × (length amid.front ≡ 0)) (sym c.new-taking.ensures) (amid_none G V W T c.args.options.now.format R known start now kept),
@@ -34,7 +34,7 @@ pub returns-then-is_over-clause-imports : goal.returns-then-is_over-clause-impor
 returns-then-is_over-clause-imports g c =
     let whole = c.lines.invariant.over c.if-is_over.true in
     if_ok_map c.finish.result _ _ c.finish.ensures.finished (λ imported finishes.
-    (whole.lines, (whole.text, record { next = record { taking = c.lines.taking; store = c.lines.store; listener = c.lines.listener }; takes = whole.takes; finishes = finishes; listener_is = refl })))
+    (whole.lines, (c.lines.has_newline, (whole.text, (whole.ends, record { next = record { taking = c.lines.taking; store = c.lines.store; listener = c.lines.listener }; takes = whole.takes; finishes = finishes; listener_is = refl })))))
 
 pub returns-then-is_over-clause-pairs : goal.returns-then-is_over-clause-pairs
 returns-then-is_over-clause-pairs g c =
@@ -43,7 +43,7 @@ returns-then-is_over-clause-pairs g c =
       whole.lines,
       (
         whole.text,
-        imports_put g.S.ImportedStore.gives g.S.ImportedStore.saves g.S.ImportedStore.rests g.L.Rejects.told c.args.options.now c.args.store.now c.args.listener.now whole.lines imported c.finish.new.store c.lines.listener
+        imports_put g.S.ImportedStore.gives g.S.ImportedStore.saves g.S.ImportedStore.rests g.L.Rejects.told c.args.options.now c.args.store.now c.args.listener.now c.lines.has_newline whole.lines imported c.finish.new.store c.lines.listener
             (record { next = record { taking = c.lines.taking; store = c.lines.store; listener = c.lines.listener }; takes = whole.takes; finishes = finishes; listener_is = refl }),
       ),
     ))
@@ -52,7 +52,7 @@ pub returns-then-is_over-2-clause-imports : goal.returns-then-is_over-2-clause-i
 returns-then-is_over-2-clause-imports g c =
     let whole = c.lines.invariant.over c.if-is_over-2.true in
     if_ok_map c.finish-then-is_over-2.result _ _ c.finish-then-is_over-2.ensures.finished (λ imported finishes.
-    (whole.lines, (whole.text, record { next = record { taking = c.lines.taking; store = c.lines.store; listener = c.lines.listener }; takes = whole.takes; finishes = finishes; listener_is = refl })))
+    (whole.lines, (c.lines.has_newline, (whole.text, (whole.ends, record { next = record { taking = c.lines.taking; store = c.lines.store; listener = c.lines.listener }; takes = whole.takes; finishes = finishes; listener_is = refl })))))
 
 pub returns-then-is_over-2-clause-pairs : goal.returns-then-is_over-2-clause-pairs
 returns-then-is_over-2-clause-pairs g c =
@@ -61,7 +61,7 @@ returns-then-is_over-2-clause-pairs g c =
       whole.lines,
       (
         whole.text,
-        imports_put g.S.ImportedStore.gives g.S.ImportedStore.saves g.S.ImportedStore.rests g.L.Rejects.told c.args.options.now c.args.store.now c.args.listener.now whole.lines imported c.finish-then-is_over-2.new.store c.lines.listener
+        imports_put g.S.ImportedStore.gives g.S.ImportedStore.saves g.S.ImportedStore.rests g.L.Rejects.told c.args.options.now c.args.store.now c.args.listener.now c.lines.has_newline whole.lines imported c.finish-then-is_over-2.new.store c.lines.listener
             (record { next = record { taking = c.lines.taking; store = c.lines.store; listener = c.lines.listener }; takes = whole.takes; finishes = finishes; listener_is = refl }),
       ),
     ))
@@ -104,7 +104,7 @@ lines-preserved g c =
     record {
       same_reader = told.same_reader ∙ c.lines.invariant.same_reader;
       ends = told.ends;
-      over = λ is. whole_step G V W T c.args.options.now.format R known start old new now next amid told.next told.ends (told.over is) (subst (λ b. TakesLine G V W T b new.line.items now next) is told.taken);
+      over = λ is. subst (λ b. IsWhole G V W T c.args.options.now.format R known start b next) (sym c.is_whole-has_newline.ensures) (whole_step G V W T c.args.options.now.format R known start new.is_whole old new now next amid told.next told.whole told.ends (told.over is) (subst (λ b. TakesLine G V W T b new.line.items now next) is told.taken));
       amid = λ is. (
         told.some is,
         amid_more G V W T c.args.options.now.format R known start old new now next amid c.lines._line (c.lines.invariant.amid c.if-is_over.false).1.1 told.next (λ over. told.some is over.taken) (subst (λ b. TakesLine G V W T b new.line.items now next) is told.taken),

@@ -1,4 +1,4 @@
-use Rattle.std.proofs.Common.{◌≡◌, ℕ, ◌<◌, List, sym, subst, arith}
+use Rattle.std.proofs.Common.{◌≡◌, arith}
 use Rattle.std.proofs.lemmas.Result.{IfErr-weaker}
 use Rattle.exh_live.specs.Refusals.{HasCounted, IsStormFault}
 use Rattle.exh_live.specs.declared.fault.StormFault.TheVariants.{Page}

@@ -1,17 +1,16 @@
-use Rattle.std.proofs.Common.{◌≡◌, ℕ, ◌+◌, ◌^◌, List, [], ◌∷◌, ◌++◌, length, ap, sym, ◌∙◌, subst, Result, Ok, Err, inl, arith}
+use Rattle.std.proofs.Common.{◌≡◌, ◌+◌, [], length, ap, sym, ◌∙◌, Result, Ok, Err, inl, arith}
 use Rattle.std.specs.Prelude.{MatchResult}
 use Rattle.std.specs.Vec.Iter.{into_iter_items}
 use Rattle.std.specs.declared.thread.PromisedHandle.{PromisedHandle}
 use Rattle.std.proofs.lemmas.List.Elements.{All-nil, All-push, All-same}
 use Rattle.exh_page.specs.declared.storm_config.StormConfig.{StormConfig}
-use Rattle.exh_live.specs.CursorPlaceLemmas.{AreFirst}
-use Rattle.exh_live.specs.Refusals.{HasCounted, IsRefusedCaller, Outcome}
+use Rattle.exh_live.specs.Refusals.{HasCounted, IsRefusedCaller}
 use Rattle.exh_live.specs.StormCalls.{IsServed}
 use Rattle.exh_live.specs.declared.seat.Seat.{Seat}
 use Rattle.exh_live.specs.declared.fault.StormFault.{StormFault}
 use Rattle.exh_live.specs.declared.fault.StormFault.TheVariants.{Memory}
 use Rattle.exh_live.specs.declared.threads.Worker.{Worker}
-use Rattle.exh_live.proofs.Outcomes.{OfCaller, first_more, first_none, from_more, from_next, from_none, joined, one_refused, one_seat_more, served_by, total_more}
+use Rattle.exh_live.proofs.FirstRefusals.{OfCaller, first_more, first_none, from_more, from_next, from_none, joined, one_refused, one_seat_more, served_by, total_more}
 use Rattle.exh_live.proofs.threads.join_callers.Given.{Over}
 use Rattle.exh_live.proofs.threads.join_callers.Goals as goal
 

@@ -5,7 +5,7 @@ use Rattle.exh_live.specs.CursorPlaceLemmas.{AreFirst}
 use Rattle.exh_live.specs.declared.fault.StormFault.TheVariants.{Memory}
 use Rattle.exh_live.specs.Refusals.{HasCounted, first_refusal}
 use Rattle.exh_live.specs.StormCalls.{IsServed}
-use Rattle.exh_live.proofs.Outcomes.{AreFrom, OfCaller}
+use Rattle.exh_live.proofs.FirstRefusals.{AreFrom, OfCaller}
 use Rattle.exh_live.proofs.threads.join_callers.Given as goal
 
 -- each thread that is left is that of its caller, each outcome so far that of one, and the seats so far were answered their calls: as many as outcomes, if none was refused

@@ -1,16 +1,15 @@
-use Rattle.std.proofs.Common.{◌≡◌, ℕ, ◌+◌, ◌^◌, List, length, ap, sym, ◌∙◌, subst, Result, inl, arith}
+use Rattle.std.proofs.Common.{◌≡◌, ◌+◌, length, ap, Result, inl, arith}
 use Rattle.std.specs.Prelude.{MatchResult}
 use Rattle.std.specs.Vec.Iter.{into_iter_items}
 use Rattle.std.specs.declared.thread.PromisedHandle.{PromisedHandle}
 use Rattle.std.proofs.lemmas.Result.{IfOk-from_err}
 use Rattle.exh_page.specs.declared.storm_config.StormConfig.{StormConfig}
-use Rattle.exh_live.specs.CursorPlaceLemmas.{AreFirst}
 use Rattle.exh_live.specs.Refusals.{HasCounted, IsRefusedCourier, Outcome}
 use Rattle.exh_live.specs.declared.courier.Courier.{Courier}
 use Rattle.exh_live.specs.declared.fault.StormFault.{StormFault}
 use Rattle.exh_live.specs.declared.fault.StormFault.TheVariants.{Memory}
 use Rattle.exh_live.specs.declared.threads.Worker.{Worker}
-use Rattle.exh_live.proofs.Outcomes.{OfCourier, first_more, first_none, from_more, from_next, from_none, joined, total_more}
+use Rattle.exh_live.proofs.FirstRefusals.{OfCourier, first_more, first_none, from_more, from_next, from_none, joined, total_more}
 use Rattle.exh_live.proofs.threads.join_couriers.Given.{Over}
 use Rattle.exh_live.proofs.threads.join_couriers.Goals as goal
 

@@ -1,10 +1,10 @@
-use Rattle.std.proofs.Common.{◌≡◌, ◌+◌, ◌^◌, length}
+use Rattle.std.proofs.Common.{◌≡◌, ◌+◌, length}
 use Rattle.std.specs.Prelude.{MatchResult}
 use Rattle.std.specs.Vec.Iter.{into_iter_items, into_iter_len}
 use Rattle.exh_live.specs.CursorPlaceLemmas.{AreFirst}
 use Rattle.exh_live.specs.declared.fault.StormFault.TheVariants.{Memory}
 use Rattle.exh_live.specs.Refusals.{HasCounted}
-use Rattle.exh_live.proofs.Outcomes.{AreFrom, OfCourier}
+use Rattle.exh_live.proofs.FirstRefusals.{AreFrom, OfCourier}
 use Rattle.exh_live.proofs.threads.join_couriers.Given as goal
 
 -- each thread that is left is that of its worker, and each outcome so far that of one

@@ -4,7 +4,7 @@ use Rattle.std.specs.Vec.Iter.{into_iter_items, into_iter_len}
 use Rattle.exh_live.specs.CursorPlaceLemmas.{AreFirst}
 use Rattle.exh_live.specs.declared.fault.StormFault.TheVariants.{Memory}
 use Rattle.exh_live.specs.Refusals.{HasCounted}
-use Rattle.exh_live.proofs.Outcomes.{AreFrom, OfKeeper}
+use Rattle.exh_live.proofs.FirstRefusals.{AreFrom, OfKeeper}
 use Rattle.exh_live.proofs.threads.join_keepers.Given as goal
 
 -- each thread that is left is that of its worker, and each outcome so far that of one

@@ -1,12 +1,8 @@
-use Rattle.std.proofs.Common.{rules, ◌≡◌, ℕ, ◌+◌, Bool, ap, sym, ◌∙◌, length, subst, Result, Ok, Err, IfErr, IfOk, arith}
+use Rattle.std.proofs.Common.{rules, ◌≡◌, ℕ, ◌+◌, ap, sym, ◌∙◌, length, subst, IfErr, IfOk, arith}
 use Rattle.std.specs.Prelude.{MatchResult}
 use Rattle.std.specs.Vec.Iter.{into_iter_items}
-use Rattle.std.specs.declared.thread.PromisedHandle.{PromisedHandle}
 use Rattle.std.proofs.lemmas.Result.{IfOk-from_err}
-use Rattle.exh_live.specs.declared.seat.Seat.{Seat}
-use Rattle.exh_live.specs.CursorPlaceLemmas.{AreFirst}
 use Rattle.exh_live.specs.declared.caller.Caller.{Caller}
-use Rattle.exh_live.specs.declared.fault.StormFault.{StormFault}
 use Rattle.exh_live.specs.declared.fault.StormFault.TheVariants.{Memory}
 use Rattle.exh_live.specs.declared.threads.Worker.{Worker}
 use Rattle.std.specs.FinMap as finite
@@ -15,7 +11,7 @@ use Rattle.exh_keyer.specs.declared.sha_keyer.ShaKeyer.{ShaKeyer}
 use Rattle.exh_live.specs.Refusals.{HasCounted}
 use Rattle.exh_live.specs.StormCalls.{IsServed}
 use Rattle.exh_live.specs.StormRounds.{IsCallerFault}
-use Rattle.exh_live.proofs.Outcomes.{caller_kept, first_more, first_none, from_more, from_next, from_none, kept_so, total_more}
+use Rattle.exh_live.proofs.FirstRefusals.{caller_kept, first_more, first_none, from_more, from_next, from_none, kept_so, total_more}
 use Rattle.exh_live.proofs.threads.start_callers.Given.{Over}
 use Rattle.exh_live.proofs.threads.start_callers.Goals.{in-Ok, in-Err}
 use Rattle.exh_live.proofs.threads.start_callers.Goals as goal

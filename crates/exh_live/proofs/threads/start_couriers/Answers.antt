@@ -1,22 +1,13 @@
-use Rattle.std.proofs.Common.{rules, ◌≡◌, ℕ, ◌+◌, Bool, ap, sym, ◌∙◌, length, subst, Result, Ok, Err, IfErr, IfOk, arith}
+use Rattle.std.proofs.Common.{rules, ◌≡◌, ℕ, ◌+◌, ap, sym, ◌∙◌, length, subst, IfErr, arith}
 use Rattle.std.specs.Prelude.{MatchResult}
 use Rattle.std.specs.Vec.Iter.{into_iter_items}
-use Rattle.std.specs.declared.thread.PromisedHandle.{PromisedHandle}
 use Rattle.std.proofs.lemmas.Result.{IfOk-from_err}
-use Rattle.exh_live.specs.declared.seat.Seat.{Seat}
-use Rattle.exh_live.specs.CursorPlaceLemmas.{AreFirst}
 use Rattle.exh_live.specs.declared.courier.Courier.{Courier}
 use Rattle.exh_live.specs.declared.courier.TheConstants.{COURIER_CLIENT}
-use Rattle.exh_live.specs.declared.fault.StormFault.{StormFault}
 use Rattle.exh_live.specs.declared.fault.StormFault.TheVariants.{Memory}
 use Rattle.exh_live.specs.declared.threads.Worker.{Worker}
-use Rattle.std.specs.FinMap as finite
-use Rattle.exh_keyer.specs.Pseudokey.{sha_pseudokey}
-use Rattle.exh_keyer.specs.declared.sha_keyer.ShaKeyer.{ShaKeyer}
-use Rattle.exh_live.specs.Refusals.{HasCounted}
-use Rattle.exh_live.specs.StormCalls.{IsServed}
 use Rattle.exh_live.specs.StormRounds.{IsCourierFault}
-use Rattle.exh_live.proofs.Outcomes.{first_more, first_none, from_more, from_next, from_none, kept_so, total_more}
+use Rattle.exh_live.proofs.FirstRefusals.{first_more, first_none, from_more, from_next, from_none, kept_so, total_more}
 use Rattle.exh_live.proofs.threads.start_couriers.Given.{Over}
 use Rattle.exh_live.proofs.threads.start_couriers.Goals.{in-Ok, in-Err}
 use Rattle.exh_live.proofs.threads.start_couriers.Goals as goal

@@ -3,7 +3,7 @@ use Rattle.std.specs.Prelude.{MatchResult}
 use Rattle.std.specs.Vec.Iter.{into_iter_items, into_iter_len}
 use Rattle.exh_live.specs.CursorPlaceLemmas.{AreFirst}
 use Rattle.exh_live.specs.declared.fault.StormFault.TheVariants.{Memory}
-use Rattle.exh_live.proofs.Outcomes.{AreFrom}
+use Rattle.exh_live.proofs.FirstRefusals.{AreFrom}
 use Rattle.exh_live.proofs.threads.start_couriers.Given as goal
 
 -- the couriers that are left have the numbers that follow, and each thread so far is its courier's

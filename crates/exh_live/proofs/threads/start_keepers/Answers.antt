@@ -1,18 +1,15 @@
-use Rattle.std.proofs.Common.{rules, ◌≡◌, ℕ, ◌+◌, ◌*◌, ◌%◌, ◌^◌, ap, sym, ◌∙◌, subst, Result, IfErr, arith}
+use Rattle.std.proofs.Common.{rules, ◌≡◌, ◌+◌, ◌*◌, ◌%◌, ◌^◌, ap, sym, ◌∙◌, subst, IfErr, arith}
 use Rattle.std.specs.Prelude.{MatchResult}
-use Rattle.std.specs.declared.thread.PromisedHandle.{PromisedHandle}
 use Rattle.std.proofs.lemmas.Nat.{shl_whole}
 use Rattle.std.proofs.lemmas.Result.{IfOk-from_err}
 use Rattle.exh_live.specs.CursorPlaceLemmas.{AreFirst, one_more}
-use Rattle.exh_live.specs.Refusals.{HasCounted, Outcome}
+use Rattle.exh_live.specs.Refusals.{HasCounted}
 use Rattle.exh_live.specs.StormRounds.{IsKeeperFault}
-use Rattle.exh_live.specs.declared.fault.StormFault.{StormFault}
 use Rattle.exh_live.specs.declared.fault.StormFault.TheVariants.{Memory}
 use Rattle.exh_live.specs.declared.keeper.TheConstants.{KEEPER_CLIENT}
 use Rattle.exh_live.specs.declared.threads.Worker.{Worker}
-use Rattle.exh_live.proofs.Outcomes.{kept_so, none_first_yet}
+use Rattle.exh_live.proofs.FirstRefusals.{kept_so, none_first_yet}
 use Rattle.exh_live.proofs.RoundsOn.{so_many}
-use Rattle.exh_live.proofs.threads.start_keepers.Given.{Over}
 use Rattle.exh_live.proofs.threads.start_keepers.Goals.{in-Ok, in-Err}
 use Rattle.exh_live.proofs.threads.start_keepers.Goals as goal
 

@@ -1,4 +1,4 @@
-use Rattle.std.proofs.Common.{◌≡◌, ℕ, List, IsTrue, refl}
+use Rattle.std.proofs.Common.{ℕ, List, IsTrue, refl}
 use Rattle.sqlite_wal.specs.Files.{seen_image}
 use Rattle.exh_commit.specs.Change.{IsCause, IsChanged, IsOldOrChanged, MayChange}
 use Rattle.exh_commit.specs.FilePages.{Leaves, LeavesAlone, StandsFor}

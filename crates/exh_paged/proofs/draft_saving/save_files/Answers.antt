@@ -20,6 +20,9 @@ returns-in-Err-clause-crash g c old found =
 pub returns-in-Err-clause-saved : goal.returns-in-Err-clause-saved
 returns-in-Err-clause-saved g c saved = absurd (c.in-Err.ensures.unsaved saved)
 
+pub returns-in-Err-clause-refused : goal.returns-in-Err-clause-refused
+returns-in-Err-clause-refused g c clean old found = (c.in-Err.ensures.refused clean old found).cause
+
 -- ---- no edits were made
 
 pub returns-in-Err-made-clause-unchanged : goal.returns-in-Err-made-clause-unchanged

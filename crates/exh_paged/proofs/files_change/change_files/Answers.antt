@@ -1,11 +1,12 @@
 use Rattle.std.proofs.Common.{◌≡◌, ℕ, List, subst, inl}
+use Rattle.sqlite_wal.specs.Files.{seen_image}
 use Rattle.exh_commit.specs.Change.{IsChanged, IsOldOrChanged, MayChange}
 use Rattle.exh_commit.specs.Change as changes
 use Rattle.exh_commit.specs.PagedFile.{bytes_in, files_in}
-use Rattle.exh_paged.specs.FilesFault.{ChangeFails}
 use Rattle.exh_paged.specs.OwnLog.{IsExpected}
 use Rattle.exh_commit.proofs.KnownLemmas.{honest}
 use Rattle.exh_paged.proofs.FilesLemmas.{alone_as, clean_as, early_fails, leaves_as, leaves_more}
+use Rattle.exh_paged.proofs.OwnLemmas.{pair_never}
 use Rattle.exh_paged.proofs.files_change.change_files.Goals as goal
 
 -- ---- it wasn't opened
@@ -41,7 +42,7 @@ pub returns-in-Ok-changed-clause-expected : goal.returns-in-Ok-changed-clause-ex
 returns-in-Ok-changed-clause-expected g c clean old found =
     let end = c.change-changed.result.1 in
     let clean_end = c.change-changed.ensures.honest (clean_as g.D.Disk (files_in end) (c.close-files.result.log, c.close-files.result.db) c.close-files.ensures clean) in
-    subst (λ (bytes : List ℕ). IsExpected c.args.expected bytes) (c.in-Ok.ensures.one clean_end old found) (c.in-Ok.ensures.expected clean_end)
+    subst (λ (bytes : List ℕ). IsExpected c.args.expected (seen_image g.D.Disk c.args.files.log c.args.files.db) bytes) (c.in-Ok.ensures.one clean_end old found) (c.in-Ok.ensures.expected clean_end)
 
 -- ---- they aren't, or may not be
 
@@ -70,3 +71,10 @@ returns-in-Err-changed-clause-cause g c truth old found =
     let it = c.in-Ok.file in
     let cause = rw c.in-Err-changed.is at c.change-changed.ensures.cause in
     subst (λ (was : List ℕ). changes.IsCause (g.C.Changer.allows c.args.changer.now) (g.C.Changer.refuses c.args.changer.now) was c.in-Err-changed.fault) (c.in-Ok.ensures.one (honest it (g.met.D.Truthful.tells_truth truth)) old found) (cause truth)
+
+pub returns-in-Err-changed-clause-refused : goal.returns-in-Err-changed-clause-refused
+returns-in-Err-changed-clause-refused g c clean old found = record { cause = tt; others = λ told. absurd told }
+
+pub returns-in-Err-clause-own : goal.returns-in-Err-clause-own
+returns-in-Err-clause-own g c clean pair told =
+    pair_never (seen_image g.D.Disk c.args.files.log c.args.files.db) pair ((c.in-Err.ensures.refused clean pair.bytes pair.stands).others told)

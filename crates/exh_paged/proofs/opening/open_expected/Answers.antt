@@ -1,61 +1,79 @@
-use Rattle.std.proofs.Common.{◌≡◌, ℕ, List, ◌∙◌, refl, sym, subst}
-use Rattle.exh_commit.specs.PagedFile.{bytes_in, files_in}
-use Rattle.exh_paged.specs.FilesFault.{IsCause}
-use Rattle.exh_paged.specs.OwnLog.{IsExpected}
-use Rattle.exh_paged.proofs.FilesLemmas.{alone_when, clean_as, found_leaves, leaves_as, leaves_when}
+use Rattle.std.proofs.Common.{◌≡◌, ℕ, List, IfErr, IfOk, sym, subst}
+use Rattle.std.proofs.lemmas.Result.{IfOk-weaker}
+use Rattle.sqlite_wal.specs.Files.{seen_image}
+use Rattle.sqlite_wal.specs.Reads.{AreClean}
+use Rattle.sqlite_wal.specs.Recovery.{Image}
+use Rattle.exh_commit.specs.FilePages.{Leaves, StandsFor}
+use Rattle.exh_commit.specs.PagedFile.{IsHonest, bytes_in}
+use Rattle.exh_paged.specs.FilesFault.{IsCauseIn, IsEarly, IsSaved}
+use Rattle.exh_paged.specs.OwnLog.{IsExpected, MustHaveFor}
+use Rattle.exh_paged.proofs.FilesLemmas.{found_leaves, only_read, read_clean, read_leaves, same_image}
 use Rattle.exh_paged.proofs.opening.open_expected.Goals as goal
+
+-- ---- the file or its log couldn't be read
 
 pub returns-in-Err-clause-unchanged : goal.returns-in-Err-clause-unchanged
 returns-in-Err-clause-unchanged g c old found =
-    let back = c.in-Err.files in
-    found_leaves g.D.Disk (c.args.files.log, c.args.files.db) (back.log, back.db) old c.requires.log_synced c.requires.db_synced found c.in-Err.ensures.given_back
+    let end = c.own_stamp.new.files in
+    let left = found_leaves g.D.Disk (c.args.files.log, c.args.files.db) (end.log, end.db) old c.requires.log_synced c.requires.db_synced found
+    (read_leaves g.D.Disk (c.args.files.log, c.args.files.db) (end.log, end.db) c.own_stamp.ensures.same_log c.own_stamp.ensures.same_db) in
+    subst (λ (pair : _ × _). Leaves g.D.Disk pair (λ bytes. bytes ≡ old)) (sym c.into_files.ensures) left
 
-pub returns-in-Err-see_expected-clause-unchanged : goal.returns-in-Err-see_expected-clause-unchanged
-returns-in-Err-see_expected-clause-unchanged g c old found =
-    let end = c.see_expected.new.file in
-    leaves_as g.D.Disk (files_in end) (c.close.result.log, c.close.result.db) (λ was bytes. bytes ≡ was) (bytes_in c.in-Ok.file) old c.close.ensures
-    (λ clean. c.in-Ok.ensures.one (c.see_expected.ensures.keeps.stays.clean clean) old found) c.see_expected.ensures.crash
+pub returns-in-Err-clause-refused : goal.returns-in-Err-clause-refused
+returns-in-Err-clause-refused g c clean old found =
+    let (error, is) = c.in-Err.ensures.read in
+    subst (λ fault. IsCauseIn c.args.expected (seen_image g.D.Disk c.args.files.log c.args.files.db) old fault) (sym is) (record { cause = tt; others = λ told. absurd told })
 
-pub returns-in-Err-see_expected-clause-refused : goal.returns-in-Err-see_expected-clause-refused
-returns-in-Err-see_expected-clause-refused g c clean old found =
-    let honest = clean_as g.D.Disk (files_in c.see_expected.new.file) (c.close.result.log, c.close.result.db) c.close.ensures clean in
-    subst (λ (bytes : List ℕ). IsCause c.args.expected bytes c.in-Err-see_expected.fault) (c.in-Ok.ensures.one (c.see_expected.ensures.keeps.stays.clean honest) old found) (c.in-Err-see_expected.ensures.refused honest)
+pub returns-in-Err-clause-early : goal.returns-in-Err-clause-early
+returns-in-Err-clause-early g c =
+    let (error, is) = c.in-Err.ensures.read in
+    subst IsEarly (sym is) tt
 
-pub returns-in-Err-see_expected-clause-early : goal.returns-in-Err-see_expected-clause-early
-returns-in-Err-see_expected-clause-early g c = c.in-Err-see_expected.ensures.early
+pub returns-in-Err-clause-unsaved : goal.returns-in-Err-clause-unsaved
+returns-in-Err-clause-unsaved g c saved =
+    let (error, is) = c.in-Err.ensures.read in
+    subst IsSaved is saved
 
-pub returns-in-Err-see_expected-clause-unsaved : goal.returns-in-Err-see_expected-clause-unsaved
-returns-in-Err-see_expected-clause-unsaved g c saved = c.in-Err-see_expected.ensures.unsaved saved
+-- ---- what was read leaves the two as they were
 
--- ---- what the log has couldn't be copied
+pub open_over-requires-clause-log_synced : goal.open_over-requires-clause-log_synced
+open_over-requires-clause-log_synced g c = only_read g.D.Disk c.args.files.log c.own_stamp.new.files.log c.own_stamp.ensures.same_log c.requires.log_synced
 
-pub returns-in-Err-settle-clause-unchanged : goal.returns-in-Err-settle-clause-unchanged
-returns-in-Err-settle-clause-unchanged g c old found =
-    let end = c.settle.new.self in
-    leaves_as g.D.Disk (files_in end) (c.close-in-Err-settle.result.log, c.close-in-Err-settle.result.db) (λ was bytes. bytes ≡ was) (bytes_in c.see_expected.new.file) old c.close-in-Err-settle.ensures
-    (λ clean. let seen = c.settle.ensures.keeps.stays.clean clean in
-    c.see_expected.ensures.same_bytes ∙ c.in-Ok.ensures.one (c.see_expected.ensures.keeps.stays.clean seen) old found) c.settle.ensures.crash
+pub open_over-requires-clause-db_synced : goal.open_over-requires-clause-db_synced
+open_over-requires-clause-db_synced g c = only_read g.D.Disk c.args.files.db c.own_stamp.new.files.db c.own_stamp.ensures.same_db c.requires.db_synced
 
--- ---- the file alone has it
+pub open_over-requires-clause-own : goal.open_over-requires-clause-own
+open_over-requires-clause-own g c clean =
+    let end = c.own_stamp.new.files in
+    let same = same_image g.D.Disk (c.args.files.log, c.args.files.db) (end.log, end.db) c.own_stamp.ensures.same_log c.own_stamp.ensures.same_db in
+    subst (λ (image : Image). MustHaveFor c.args.expected image c.in-Ok.own) (sym same) (c.in-Ok.ensures.own clean)
 
-pub returns-clause-one : goal.returns-clause-one
-returns-clause-one g c honest old found =
-    let seen = c.settle.ensures.keeps.stays.clean honest in
-    c.settle.ensures.bytes c.in_default-settle.ensures.ready honest ∙ c.see_expected.ensures.same_bytes ∙ c.in-Ok.ensures.one (c.see_expected.ensures.keeps.stays.clean seen) old found
+pub returns-in-Ok-clause-one : goal.returns-in-Ok-clause-one
+returns-in-Ok-clause-one g c =
+    let end = c.own_stamp.new.files in
+    let same = same_image g.D.Disk (c.args.files.log, c.args.files.db) (end.log, end.db) c.own_stamp.ensures.same_log c.own_stamp.ensures.same_db in
+    subst (λ (image : Image). IfOk c.open_over.result (λ it. IsHonest it → (old : List ℕ) → StandsFor image old → bytes_in it ≡ old)) same c.open_over.ensures.one
 
-pub returns-clause-expected : goal.returns-clause-expected
-returns-clause-expected g c honest =
-    let seen = c.settle.ensures.keeps.stays.clean honest in
-    subst (λ (bytes : List ℕ). IsExpected c.args.expected bytes) (sym (c.settle.ensures.bytes c.in_default-settle.ensures.ready honest ∙ c.see_expected.ensures.same_bytes)) (c.in_default.ensures.expected seen)
+pub returns-in-Ok-clause-expected : goal.returns-in-Ok-clause-expected
+returns-in-Ok-clause-expected g c =
+    let end = c.own_stamp.new.files in
+    let same = same_image g.D.Disk (c.args.files.log, c.args.files.db) (end.log, end.db) c.own_stamp.ensures.same_log c.own_stamp.ensures.same_db in
+    subst (λ (image : Image). IfOk c.open_over.result (λ it. IsHonest it → IsExpected c.args.expected image (bytes_in it))) same c.open_over.ensures.expected
 
-pub returns-clause-alone : goal.returns-clause-alone
-returns-clause-alone g c =
-    let end = c.settle.new.self in
-    alone_when g.D.Disk (files_in end) (files_in end) (λ bytes. bytes ≡ bytes_in c.see_expected.new.file) (λ bytes. bytes ≡ bytes_in end) refl
-    (λ clean bytes is. is ∙ sym (c.settle.ensures.bytes c.in_default-settle.ensures.ready clean)) c.in_default-settle.ensures.alone
+pub returns-in-Ok-clause-unchanged : goal.returns-in-Ok-clause-unchanged
+returns-in-Ok-clause-unchanged g c =
+    let end = c.own_stamp.new.files in
+    let same = same_image g.D.Disk (c.args.files.log, c.args.files.db) (end.log, end.db) c.own_stamp.ensures.same_log c.own_stamp.ensures.same_db in
+    subst (λ (image : Image). IfErr c.open_over.result (λ failed. (old : List ℕ) → StandsFor image old → Leaves g.D.Disk (failed.1.log, failed.1.db) (λ bytes. bytes ≡ old))) same c.open_over.ensures.unchanged
 
-pub returns-clause-crash : goal.returns-clause-crash
-returns-clause-crash g c =
-    let end = c.settle.new.self in
-    leaves_when g.D.Disk (files_in end) (files_in end) (λ bytes. bytes ≡ bytes_in c.see_expected.new.file) (λ bytes. bytes ≡ bytes_in end) refl
-    (λ clean bytes is. is ∙ sym (c.settle.ensures.bytes c.in_default-settle.ensures.ready clean)) c.settle.ensures.crash
+pub returns-in-Ok-clause-refused : goal.returns-in-Ok-clause-refused
+returns-in-Ok-clause-refused g c =
+    let end = c.own_stamp.new.files in
+    let same = same_image g.D.Disk (c.args.files.log, c.args.files.db) (end.log, end.db) c.own_stamp.ensures.same_log c.own_stamp.ensures.same_db in
+    subst (λ (image : Image). IfErr c.open_over.result (λ failed. AreClean g.D.Disk failed.1.log failed.1.db → (old : List ℕ) → StandsFor image old → IsCauseIn c.args.expected image old failed.0)) same c.open_over.ensures.refused
+
+pub returns-in-Ok-clause-clean : goal.returns-in-Ok-clause-clean
+returns-in-Ok-clause-clean g c =
+    let end = c.own_stamp.new.files in
+    IfOk-weaker c.open_over.result (λ it. IsHonest it → AreClean g.D.Disk end.log end.db) (λ it. IsHonest it → AreClean g.D.Disk c.args.files.log c.args.files.db)
+    (λ it clean honest. read_clean g.D.Disk (c.args.files.log, c.args.files.db) (end.log, end.db) c.own_stamp.ensures.same_log c.own_stamp.ensures.same_db (clean honest)) c.open_over.ensures.clean

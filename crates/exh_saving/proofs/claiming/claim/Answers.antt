@@ -17,7 +17,7 @@ loop-turn-preserved g c =
     let taken = rw c.deref.ensures at none in
     record {
       same = c.claim_name.ensures.crash ∙ c.loop-turn.invariant.same;
-      taken = All-more (IsTakenBeside answers c.args.magic path old) suffixes c.loop-turn.turn [] (omega arith) c.loop-turn.invariant.taken (_, beside, taken);
+      taken = All-more (IsTakenBeside answers path old) suffixes c.loop-turn.turn [] (omega arith) c.loop-turn.invariant.taken (_, beside, taken);
     }
 
 -- each name was tried
@@ -25,4 +25,4 @@ pub returns-in-Ok-names_beside-clause-err : goal.returns-in-Ok-names_beside-clau
 returns-in-Ok-names_beside-clause-err g c =
     let answers = g.D.Disk.answers in
     let all = take_all c.loop-turn.turn suffixes (omega (arith, c.loop-turn-test.false)) in
-    inr (inl (subst (All (IsTakenBeside answers c.args.magic c.args.path.now (option_copied c.args.old))) all c.loop-turn.invariant.taken))
+    inr (inl (subst (All (IsTakenBeside answers c.args.path.now (option_copied c.args.old))) all c.loop-turn.invariant.taken))

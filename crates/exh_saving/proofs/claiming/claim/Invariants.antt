@@ -8,5 +8,5 @@ use Rattle.exh_saving.proofs.claiming.claim.Given as goal
 abbrev pub invariant-loop-turn : goal.invariant-loop-turn
 invariant-loop-turn g l = record {
   same : g.D.Disk.history l.disk l.path ≡ g.D.Disk.history l.initial.disk l.path;
-  taken : All (IsTakenBeside g.D.Disk.answers l.magic l.path (option_copied l.old)) (take l.turn suffixes);
+  taken : All (IsTakenBeside g.D.Disk.answers l.path (option_copied l.old)) (take l.turn suffixes);
 }

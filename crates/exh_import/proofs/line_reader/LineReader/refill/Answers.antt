@@ -49,3 +49,12 @@ returns-in_err-extend_from_slice-clause-start g c = IfOk-from_err c.from_residua
 
 pub returns-in_err-extend_from_slice-clause-full : goal.returns-in_err-extend_from_slice-clause-full
 returns-in_err-extend_from_slice-clause-full g c = IfOk-from_err c.from_residual-in_err-extend_from_slice.result _ c.from_residual-in_err-extend_from_slice.ensures.0
+
+pub returns-in_err-count-clause-whole : goal.returns-in_err-count-clause-whole
+returns-in_err-count-clause-whole g c = refl
+
+pub returns-in_err-extend_from_slice-clause-whole : goal.returns-in_err-extend_from_slice-clause-whole
+returns-in_err-extend_from_slice-clause-whole g c = refl
+
+pub returns-clause-whole : goal.returns-clause-whole
+returns-clause-whole g c = refl

@@ -32,8 +32,8 @@ loop-done-preserved g c =
       number = was.number;
       name = c.in_ok-notices.ensures.name ∙ was.name;
       rounds =
-          courier_round_more (may (COURIER_CLIENT + c.args.self.now.number)) c.loop-done.done c.args.self.now.copy.writer c.loop-done.self.copy.writer c.courier_round.new.copy c.in_ok-cursors.cursors c.loop-done.cursors c.courier_round.new.cursors c.pass.result was.rounds
-          says c.if-not-pass.false (carried.0, carried.1, carried.3);
+          courier_round_more g.K.Keyer.pseudokey_of (may (COURIER_CLIENT + c.args.self.now.number)) c.loop-done.done c.args.self.now.copy.writer c.loop-done.self.copy.writer c.courier_round.new.copy c.in_ok-cursors.cursors c.loop-done.cursors c.courier_round.new.cursors c.pass.result was.rounds
+          says c.if-not-pass.false (carried.0, carried.1, carried.3, carried.4);
     }
 
 pub returns-in_err-cursors-clause-rounds : goal.returns-in_err-cursors-clause-rounds
@@ -79,7 +79,7 @@ returns-clause-name g c = c.loop-done.invariant.name
 pub returns-clause-rounds : goal.returns-clause-rounds
 returns-clause-rounds g c =
     let may = g.G.Gate.may c.args.gate.now (COURIER_CLIENT + c.args.self.now.number) in
-    let rounds = subst (λ count. AreCourierRounds may count c.args.self.now.copy.writer c.in_ok-cursors.cursors c.loop-done.self.copy.writer c.loop-done.cursors) (so_many c.loop-done-test.false c.loop-done.auto.done-end) c.loop-done.invariant.rounds in
+    let rounds = subst (λ count. AreCourierRounds g.K.Keyer.pseudokey_of may count c.args.self.now.copy.writer c.in_ok-cursors.cursors c.loop-done.self.copy.writer c.loop-done.cursors) (so_many c.loop-done-test.false c.loop-done.auto.done-end) c.loop-done.invariant.rounds in
     let first = subst (λ table. AreFirstCursors c.args.ward_bits table c.in_ok-cursors.cursors) c.new.ensures c.in_ok-cursors.ensures in
     (c.in_ok-cursors.cursors, c.loop-done.cursors, first, rounds)
 

@@ -9,5 +9,5 @@ invariant-loop-done g l = record {
   cursors : length l.cursors ≡ 2 ^ l.file.ward_bits;
   number : l.self.number ≡ l.fn.self.number;
   name : l.self.copy.writer.name ≡ l.fn.self.copy.writer.name;
-  rounds : AreCourierRounds (g.G.Gate.may l.gate (COURIER_CLIENT + l.fn.self.number)) l.done l.fn.self.copy.writer l.initial.cursors l.self.copy.writer l.cursors;
+  rounds : AreCourierRounds g.K.Keyer.pseudokey_of (g.G.Gate.may l.gate (COURIER_CLIENT + l.fn.self.number)) l.done l.fn.self.copy.writer l.initial.cursors l.self.copy.writer l.cursors;
 }

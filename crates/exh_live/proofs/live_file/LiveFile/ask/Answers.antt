@@ -1,4 +1,4 @@
-use Rattle.std.proofs.Common.{◌≡◌, ℕ, ◌+◌, List, [], ◌∷◌, ◌++◌, length, append-nil, Option, Some, None, Result, Ok, Err, IfErr, IfSome, IfNone, unwrap_or, inl, inr, refl, sym, ap, ap₂, ◌∙◌, subst, Bool, false, arith}
+use Rattle.std.proofs.Common.{◌≡◌, ℕ, ◌+◌, List, [], ◌∷◌, ◌++◌, length, append-nil, Option, Some, None, Result, Ok, Err, IfErr, IfSome, IfNone, unwrap_or, inl, inr, refl, sym, ap, ap₂, ◌∙◌, subst, false, arith}
 use Rattle.std.specs.Prelude.{OnErr, OnOk, is_err}
 use Rattle.std.proofs.lemmas.List.{length_push}
 use Rattle.std.proofs.lemmas.Result.{IfOk-from_err}

@@ -38,5 +38,5 @@ loop-page-preserved g c =
 
 pub returns-clause-round : goal.returns-clause-round
 returns-clause-round g c =
-    let all : c.loop-page.page ≡ c.page_count-pages.result = omega (arith, c.loop-page-test.false, c.loop-page.auto.page-end) in
-    (c.page_count-pages.result, (_, c.page_count-pages.ensures.sound, c.page_count-pages.ensures.count), subst (λ pages. AreKeeperTurns g.K.Keyer.pseudokey_of c.args.ward pages c.loop-page.merges) all c.loop-page.invariant.turns)
+    let all : c.loop-page.page ≡ c.in_ok-pages.pages = omega (arith, c.loop-page-test.false, c.loop-page.auto.page-end) in
+    (c.in_ok-pages.pages, (_, c.in_ok-pages.ensures.sound, c.in_ok-pages.ensures.count), subst (λ pages. AreKeeperTurns g.K.Keyer.pseudokey_of c.args.ward pages c.loop-page.merges) all c.loop-page.invariant.turns)

@@ -1,7 +1,7 @@
 use Rattle.std.proofs.Common.{◌≡◌, ℕ, ◌^◌, ◌<◌, ◌≤◌, vec_len, ap, sym, ◌∙◌, arith}
 use Rattle.exh_calls.specs.declared.diary.TheConstants.{CALLER_LIMIT}
 use Rattle.exh_page.specs.declared.file_settings.FileSettings.{FileSettings}
-use Rattle.exh_live.specs.WardParts.{parts_of_first, ward_parts}
+use Rattle.exh_live.specs.WardParts.{parts_of_first}
 use Rattle.exh_live.proofs.FirstWard.{new_file, settings_of_first}
 use Rattle.exh_live.proofs.Parts.{entries_for_wards, room_for_wards}
 use Rattle.exh_live.proofs.ToBeTallied.{to_be_tallied, wards_are_few}

@@ -1,7 +1,6 @@
-use Rattle.std.proofs.Common.{◌≡◌, ◌+◌, ◌*◌, ◌^◌, ◌≤◌, vec_len, sym, ap, ◌∙◌, subst, arith}
+use Rattle.std.proofs.Common.{◌^◌, ◌≤◌, vec_len, sym, ap, ◌∙◌, subst, arith}
 use Rattle.exh_live.specs.LiveFile.{LiveState}
-use Rattle.exh_live.specs.WardParts.{parts_of_first, parts_of_wards, ward_parts}
-use Rattle.exh_live.specs.declared.ledgers.TheConstants.{ANSWER_PARTS, ENTRY_PARTS}
+use Rattle.exh_live.specs.WardParts.{parts_of_first}
 use Rattle.exh_live.proofs.Parts.{all_back, answers_are, entries_are, entries_back, parts_are}
 use Rattle.exh_live.proofs.live_file.LiveFile.opened.Goals as goal
 

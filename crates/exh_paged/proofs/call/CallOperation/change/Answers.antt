@@ -1,6 +1,5 @@
-use Rattle.std.proofs.Common.{◌≡◌, ℕ, List, [], length, refl, inl, inr, ◌∙◌, ap, arith}
+use Rattle.std.proofs.Common.{◌≡◌, inl, inr, ap, arith}
 use Rattle.std.proofs.lemmas.List.{nil_from_length}
-use Rattle.exh_calls.specs.declared.call.Call.{Call}
 use Rattle.exh_change.specs.Leaves.{most_edits}
 use Rattle.exh_paged.proofs.EditLemmas.{are_within}
 use Rattle.exh_paged.proofs.call.CallOperation.change.Goals as goal

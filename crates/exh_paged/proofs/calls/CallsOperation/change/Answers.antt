@@ -1,4 +1,4 @@
-use Rattle.std.proofs.Common.{◌≡◌, ℕ, List, [], refl, sym, ◌∙◌}
+use Rattle.std.proofs.Common.{sym}
 use Rattle.exh_paged.proofs.calls.CallsOperation.change.Goals as goal
 
 pub returns : goal.returns
