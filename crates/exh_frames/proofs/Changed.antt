@@ -1,6 +1,7 @@
 -- The image of a page that is changed in place.
 use Rattle.std.proofs.Common.{◌≡◌, ℕ, ◌^◌, ◌<◌, ◌≤◌, Bool, true, false, List, length, Option, subst, arith}
 use Rattle.std.specs.Prelude.{IfSome}
+use Rattle.std.specs.List.{AllByRecursion}
 use Rattle.std.proofs.lemmas.List.{length_push}
 use Rattle.exh_prefix.specs.Layout.{written_version}
 use Rattle.exh_page.specs.declared.page.Page.{Page}
@@ -11,11 +12,12 @@ use Rattle.exh_page.specs.Halves.{left_half, link_of, right_half, union}
 use Rattle.exh_page.specs.Page.{AreRecordsOf, IsDivisible, IsLive, IsWellFormed, records_of, with_records}
 use Rattle.exh_page.specs.PageHead.{head_of}
 use Rattle.exh_page.specs.Records.{IsRising}
+use Rattle.exh_page.specs.ShareLemmas.{AreWords-hashed}
 use Rattle.exh_codec.specs.CodecLaws.{BlocksAreRead}
 use Rattle.exh_codec.specs.PageImage.{IsInRange, IsLaidOut}
 use Rattle.exh_codec.specs.PageImageLemmas.{few_records}
 use Rattle.exh_frames.specs.declared.image.Image.{Image}
-use Rattle.exh_frames.specs.InPlace.{AreHashed, HasContent}
+use Rattle.exh_frames.specs.InPlace.{AreHashed, AreKeyed, HasContent}
 use Rattle.exh_frames.specs.PageImages.{Shows}
 use Rattle.exh_frames.proofs.Contents.{AreSized}
 use Rattle.exh_frames.proofs.Kept.{written_fits}
@@ -48,21 +50,29 @@ module _ (pseudo : List ℕ → ℕ) where
 
   -- ---- pages that are shown
 
-  pub shown : BlocksAreRead → (page : Page) (image : Image) → IsLaidOut written_version pseudo page image.block → Shows pseudo page image
-  shown read page image laid = record { laid = laid; read = read written_version written_fits pseudo page image.block laid }
-
-  pub hashed_in : (page : Page) → IsLive page → IsWellFormed pseudo page → AreHashed pseudo (records_of page)
-  hashed_in (Live prefix right records) live formed = record { rising = formed.0.rising; hashed = formed.0.hashed }
-  hashed_in (Forward low target) live formed = absurd live
+  pub shown : BlocksAreRead → (page : Page) (image : Image) → IsLaidOut written_version pseudo page image.block → AreKeyed (records_of page) image.pseudokeys → Shows pseudo page image
+  shown read page image laid keyed = record { laid = laid; read = read written_version written_fits pseudo page image.block laid; keyed = keyed }
 
   pub rising_in : (page : Page) → IsWellFormed pseudo page → IsRising (records_of page)
   rising_in (Live prefix right records) formed = formed.0.rising
   rising_in (Forward low target) formed = tt
 
+  pub hashed_in : (page : Page) (pseudokeys : List ℕ) → IsWellFormed pseudo page → AreKeyed (records_of page) pseudokeys → AreHashed pseudokeys (records_of page)
+  hashed_in page pseudokeys formed keyed = record { rising = rising_in page formed; keyed = keyed }
+
+  pub words_in : ((key : List ℕ) → pseudo key < 2 ^ 64) → (page : Page) → IsWellFormed pseudo page → AllByRecursion (λ r. r.pseudokey < 2 ^ 64) (records_of page)
+  words_in fits (Live prefix right records) formed = AreWords-hashed pseudo fits records formed.0.hashed
+  words_in fits (Forward low target) formed = tt
+
   -- a live page, by its head
   pub live_as : (page : Page) (prefix : List Bool) (link : Option ℕ) (count : ℕ) → LiveHead prefix link count ≡ head_of page → page ≡ Live prefix link (records_of page)
   live_as (Live own right records) prefix link count is = cc
   live_as (Forward low target) prefix link count is = cc
+
+  -- one that sends on, by its head
+  pub forward_as : (page : Page) (low target : ℕ) → ForwardHead low target ≡ head_of page → page ≡ Forward low target
+  forward_as (Live own right records) low target is = cc
+  forward_as (Forward own to) low target is = cc
 
   pub live_divisible : (page : Page) → IsDivisible page → IsLive page
   live_divisible (Live prefix link records) divisible = tt

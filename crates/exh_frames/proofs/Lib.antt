@@ -5,6 +5,7 @@ pub mod Kept
 pub mod Edited
 pub mod Cells
 pub mod Places
+pub mod Keyed
 pub mod Contents
 pub mod Changed
 pub mod Laid

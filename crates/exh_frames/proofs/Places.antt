@@ -42,6 +42,19 @@ pub same_place : (place : Place) → place_cmp place place ≡ Equal
 same_place place =
     elim (place_cmp place place) as (λ o. o ≡ ordering_reverse o → o ≡ Equal) [ Less ↦ λ turned. cc | Equal ↦ λ _. refl | Greater ↦ λ turned. cc ] (place_cmp-total.antisymm place place)
 
+-- the first of rising records rise
+pub rising_take : (records : List Record) (n : ℕ) → IsRising records → IsRising (take n records)
+rising_take [] zero rising = tt
+rising_take [] (suc n) rising = tt
+rising_take (r ∷ records) zero rising = tt
+rising_take (r ∷ records) (suc n) rising = (behind records n rising.0, rising_take records n rising.1)
+  where
+    behind : (records : List Record) (n : ℕ) → AllByRecursion (λ s. place_cmp (place_of r) (place_of s) ≡ Less) records → AllByRecursion (λ s. place_cmp (place_of r) (place_of s) ≡ Less) (take n records)
+    behind [] zero all = tt
+    behind [] (suc n) all = tt
+    behind (s ∷ records) zero all = tt
+    behind (s ∷ records) (suc n) all = (all.0, behind records n all.1)
+
 -- in rising records all those before one stand before its place
 before_one : (front : List Record) (one : Record) (back : List Record) → IsRising (front ++ one ∷ back) → AllBefore (place_of one) front
 before_one [] one back rising = tt
@@ -125,6 +138,16 @@ all_after place (r ∷ records) rest apart = (after_place place r rest.0 apart.0
 
 -- ---- the edit of a place
 
+-- the records with one over the one that is found at its place
+pub put_over : (item : Record) (records : List Record) (i : ℕ) (found : IsFound (place_of item) records i) → with_record item records ≡ take i records ++ item ∷ drop (i + 1) records
+put_over item records i found = with_record-cut item records (take i records) (Some found.found) (drop (i + 1) records) found.cut
+
+-- and with one before the first that stands behind it
+pub put_before : (item : Record) (records : List Record) (i : ℕ) → IsPlaceIn (place_of item) records i → value_at (place_of item) records ≡ None → with_record item records ≡ take i records ++ item ∷ drop i records
+put_before item records i place none =
+    let after = all_after (place_of item) (drop i records) place.rest (apart_drop _ i records (all_apart (place_of item) records none)) in
+    with_record-cut item records (take i records) None (drop i records) (record { whole = sym (take-append-drop i records); before = place.before; here = tt; after = after })
+
 -- the gap of the record of an index
 abbrev pub over : List ℕ → ℕ → Gap
 over starts i = record { start = slice_index starts i; end = slice_index starts (i + 1); count = 1 }
@@ -187,12 +210,6 @@ module _ (records : List Record) (starts : List ℕ) (at : AreStarts records sta
         end = end_of i (get_or records i d) within whole;
         count = refl;
       }
-
--- the record of an index has its key's pseudokey
-pub hashed_at : (pseudo : List ℕ → ℕ) (records : List Record) (i : ℕ) (d : Record) → AllByRecursion (λ r. r.pseudokey ≡ pseudo r.key) records → i < length records → (get_or records i d).pseudokey ≡ pseudo (get_or records i d).key
-hashed_at pseudo [] i d all within = absurd (omega (arith, within))
-hashed_at pseudo (r ∷ records) zero d all within = all.0
-hashed_at pseudo (r ∷ records) (suc i) d all within = hashed_at pseudo records i d all.1 (omega (arith, within))
 
 -- ---- the record of a key
 

@@ -1,14 +1,15 @@
 -- Records where they stand in an image: what is found there, and what is put in place of others.
-use Rattle.std.specs.Prelude.{◌≡◌, ◌≢◌, ℕ, ◌+◌, ◌<◌, ◌≤◌, Bool, List, ◌++◌, length, map, take, drop, slice_get, slice_index, false, Option, None, Some}
+use Rattle.std.specs.Prelude.{◌≡◌, ◌≢◌, ⊤, ℕ, ◌+◌, ◌^◌, ◌<◌, ◌≤◌, Bool, List, [], ◌∷◌, ◌++◌, length, map, take, drop, slice_get, slice_index, false, Option, None, Some}
 use Rattle.std.specs.List.{AllByRecursion, flat_map}
 use Rattle.std.specs.Ordering.{is_lt}
+use Rattle.exh_prefix.specs.Prefix.{Begins}
 use Rattle.exh_page.specs.declared.page.Page.{Page}
 use Rattle.exh_page.specs.declared.page.TheConstants.{CAP_LIMIT}
 use Rattle.exh_page.specs.declared.record.Record.{Record}
 use Rattle.exh_page.specs.declared.spot.Spot.{Spot}
 use Rattle.exh_page.specs.KeyMap.{pair_of}
 use Rattle.exh_page.specs.declared.page.Page.TheVariants.{Live}
-use Rattle.exh_page.specs.Page.{AreRecordsOf, IsLive, records_of}
+use Rattle.exh_page.specs.Page.{IsLive, records_of}
 use Rattle.exh_page.specs.Place.{Place, place_cmp, place_of}
 use Rattle.exh_page.specs.Records.{IsRising, with_record}
 use Rattle.exh_page.specs.RecordsLemmas.{AllBefore}
@@ -55,10 +56,16 @@ abbrev pub IsSoughtKey : List ℕ → List Record → Option (Spot × List ℕ) 
 IsSoughtKey key records None = AllByRecursion (λ r. r.key ≢ key) records
 IsSoughtKey key records (Some found) = IsKeyAt key records found.0 found.1
 
--- the records rise, each with its key's pseudokey
-pub record AreHashed (pseudo : List ℕ → ℕ) (records : List Record) : Type 0 where
+-- numbers begin with the pseudokeys of records, in their order
+abbrev pub AreKeyed : List Record → List ℕ → Type 0
+AreKeyed [] numbers = ⊤
+AreKeyed (r ∷ records) [] = ⊥
+AreKeyed (r ∷ records) (number ∷ numbers) = (number ≡ r.pseudokey) × AreKeyed records numbers
+
+-- the records rise, and numbers begin with their pseudokeys
+pub record AreHashed (pseudokeys : List ℕ) (records : List Record) : Type 0 where
   pub rising : IsRising records
-  pub hashed : AllByRecursion (λ r. r.pseudokey ≡ pseudo r.key) records
+  pub keyed : AreKeyed records pseudokeys
 
 -- the records before the index stand before a place, and none of the others
 pub record IsPlaceIn (place : Place) (records : List Record) (i : ℕ) : Type 0 where
@@ -77,10 +84,10 @@ pub record IsEdit (old put new : List Record) (gap : Gap) : Type 0 where
   pub end : gap.end ≡ gap.start + length (bytes_of middle)
   pub count : gap.count ≡ length middle
 
--- the block is that of a page which a record may be put into: over the one that stands at a spot, if one has its place
-pub record TakesRecord (pseudo : List ℕ → ℕ) (block : List ℕ) (stood : Option Spot) (item : Record) (page : Page) : Type 0 where
+-- the block is that of a page, with its records' pseudokeys, which a record may be put into: over the one that stands at a spot, if one has its place
+pub record TakesRecord (pseudokeys : List ℕ) (block : List ℕ) (stood : Option Spot) (item : Record) (page : Page) : Type 0 where
   pub content : HasContent block page
-  pub hashed : AreHashed pseudo (records_of page)
+  pub hashed : AreHashed pseudokeys (records_of page)
   pub stands : IsStood (place_of item) (records_of page) stood
   pub room : length (with_record item (records_of page)) ≤ CAP_LIMIT
 
@@ -89,10 +96,12 @@ pub record LosesRecord (block : List ℕ) (index : ℕ) (page : Page) : Type 0 w
   pub content : HasContent block page
   pub within : index < length (records_of page)
 
--- the block is that of a page of this prefix and link, which can be split
-pub record IsSplitBlock (pseudo : List ℕ → ℕ) (block : List ℕ) (prefix : List Bool) (link : Option ℕ) (records : List Record) : Type 0 where
+-- the block is that of a page of this prefix and link, with its records' pseudokeys, which can be split
+pub record IsSplitBlock (pseudokeys : List ℕ) (block : List ℕ) (prefix : List Bool) (link : Option ℕ) (records : List Record) : Type 0 where
   pub content : HasContent block (Live prefix link records)
-  pub are : AreRecordsOf pseudo prefix records
+  pub hashed : AreHashed pseudokeys records
+  pub words : AllByRecursion (λ r. r.pseudokey < 2 ^ 64) records
+  pub begun : AllByRecursion (λ r. Begins prefix r.pseudokey) records
 
 -- the blocks are those of two pages whose records one page can have
 pub record AreUnited (block other : List ℕ) (page twin : Page) : Type 0 where

@@ -5,38 +5,39 @@ ghost use Rattle.exh_page.specs.declared.record.Record.{Record as RecordType};
 ghost use Rattle.exh_page.specs.Page.{records_of, with_records};
 ghost use Rattle.exh_page.specs.Place.{place_of};
 ghost use Rattle.exh_page.specs.Records.{with_record};
-ghost use Rattle.exh_page.specs.Search.{IsStood};
 ghost use Rattle.exh_codec.specs.Cells.{IsSizedPair, pair_image};
-ghost use Rattle.exh_frames.specs.InPlace.{AreHashed, AreStarts, HasContent, IsEdit, LosesRecord, TakesRecord};
+ghost use Rattle.exh_frames.specs.InPlace.{AreKeyed, AreStarts, HasContent, IsEdit, LosesRecord, TakesRecord};
 ghost use Rattle.exh_frames.specs.declared.cell.TheConstants.{RECORD_LEN};
 
 use crate::cell::{COUNT_AT, STARTS_LEN, cell_len, starts_of};
 use crate::gap::{Gap, gap_before, gap_over};
+use crate::pseudokeys::insert_pseudokey;
 use crate::search::index_of_place;
 use exh_codec::BLOCK_LEN;
-use exh_keyer::Keyer;
-use exh_page::{Key, Spot, Value};
+use exh_page::{CAP_LIMIT, Key, Spot, Value};
 
 // Up to so many bytes are moved by way of no more room than that.
 const FEW_BYTES: usize = 256;
 
-/// Puts a record into the image of a live page: over the one that stands at a spot, where the page has
-/// one, else where it belongs. The records behind it are moved, and nothing else is written but their
-/// number.
-pub(crate) fn put_record<K: Keyer>(
-    keyer: &K,
+/// Puts a record into the image of a live page, and its pseudokey among those of the others: over the
+/// one that stands at a spot, where the page has one, else where it belongs. The records behind it are
+/// moved, and nothing else is written but their number.
+pub(crate) fn put_record(
     block: &mut [u8; BLOCK_LEN],
+    pseudokeys: &mut [u64; CAP_LIMIT],
     stood: Option<Spot>,
     pseudokey: u64,
     key: &Key,
     value: &Value,
 )
-    requires { (page : PageType) × TakesRecord (K.pseudokey_of keyer.now) block.old stood (record { pseudokey = pseudokey; key = key.now; value = value.now }) page }
-    ensures { (page : PageType) → TakesRecord (K.pseudokey_of keyer.now) block.old stood (record { pseudokey = pseudokey; key = key.now; value = value.now }) page
+    requires { (page : PageType) × TakesRecord pseudokeys.old block.old stood (record { pseudokey = pseudokey; key = key.now; value = value.now }) page }
+    ensures content { (page : PageType) → TakesRecord pseudokeys.old block.old stood (record { pseudokey = pseudokey; key = key.now; value = value.now }) page
         → HasContent block.new (with_records (with_record (record { pseudokey = pseudokey; key = key.now; value = value.now }) (records_of page)) page) }
+    ensures keyed { (page : PageType) → TakesRecord pseudokeys.old block.old stood (record { pseudokey = pseudokey; key = key.now; value = value.now }) page
+        → AreKeyed (with_record (record { pseudokey = pseudokey; key = key.now; value = value.now }) (records_of page)) pseudokeys.new }
 {
     let starts = starts_of(block);
-    let gap = gap_for(keyer, block, &starts, stood, pseudokey, key);
+    let gap = open_gap(block, pseudokeys, &starts, stood, pseudokey, key);
     let count = block[COUNT_AT];
     let used = starts[usize::from(count)];
     block[COUNT_AT] = count - gap.count + 1;
@@ -58,23 +59,28 @@ pub(crate) fn remove_record(block: &mut [u8; BLOCK_LEN], index: usize)
     resize(block, gap, used, 0);
 }
 
-// The gap of a record's place: that of the record at a spot, where one stands there.
-fn gap_for<K: Keyer>(
-    keyer: &K,
+// The gap of a record's place: that of the record at a spot, where one stands there, else one of no
+// record, for which the pseudokey is put among those of the others.
+fn open_gap(
     block: &[u8; BLOCK_LEN],
+    pseudokeys: &mut [u64; CAP_LIMIT],
     starts: &[usize; STARTS_LEN],
     stood: Option<Spot>,
     pseudokey: u64,
     key: &Key,
 ) -> Gap
-    requires { (page : PageType) × HasContent block.now page × AreStarts (records_of page) starts.now × AreHashed (K.pseudokey_of keyer.now) (records_of page) × IsStood (pseudokey, key.now) (records_of page) stood }
-    ensures { (page : PageType) → HasContent block.now page → AreStarts (records_of page) starts.now → AreHashed (K.pseudokey_of keyer.now) (records_of page) → IsStood (pseudokey, key.now) (records_of page) stood
-        → (item : RecordType) → place_of item ≡ (pseudokey, key.now) → IsEdit (records_of page) (item ∷ []) (with_record item (records_of page)) result }
+    requires { (page : PageType) × (item : RecordType) × AreStarts (records_of page) starts.now × (place_of item ≡ (pseudokey, key.now)) × TakesRecord pseudokeys.old block.now stood item page }
+    ensures edit { (page : PageType) (item : RecordType) → AreStarts (records_of page) starts.now → place_of item ≡ (pseudokey, key.now) → TakesRecord pseudokeys.old block.now stood item page
+        → IsEdit (records_of page) (item ∷ []) (with_record item (records_of page)) result }
+    ensures keyed { (page : PageType) (item : RecordType) → AreStarts (records_of page) starts.now → place_of item ≡ (pseudokey, key.now) → TakesRecord pseudokeys.old block.now stood item page
+        → AreKeyed (with_record item (records_of page)) pseudokeys.new }
 {
     match stood {
         Some(spot) => gap_over(starts, spot.index),
         None => {
-            let index = index_of_place(keyer, block, starts, pseudokey, key.as_bytes());
+            let index = index_of_place(block, pseudokeys, starts, pseudokey, key.as_bytes());
+            let count = usize::from(block[COUNT_AT]);
+            insert_pseudokey(pseudokeys, count, index, pseudokey);
             gap_before(starts, index)
         }
     }

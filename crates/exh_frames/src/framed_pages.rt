@@ -1,14 +1,17 @@
-ghost use Rattle.std.specs.Prelude.{◌≡◌, ◌↔◌, ◌-◌, ◌<◌, ◌^◌, [], ◌∷◌, ◌++◌, length, remove, slice_set, IsSome, IfOk, OnOk, OnErr, IsErrOf};
+ghost use Rattle.std.specs.Prelude.{◌≡◌, ◌↔◌, ◌-◌, ◌<◌, ◌≤◌, ◌^◌, [], ◌∷◌, ◌++◌, length, remove, slice_get, slice_set, Some, None, IsSome, IfOk, OnOk, OnErr, IsErrOf};
+ghost use Rattle.std.specs.NonZero.{non_zero_usize_get};
 ghost use Rattle.std.specs.List.{AllByRecursion};
 ghost use Rattle.exh_prefix.specs.Layout.{written_version};
-ghost use Rattle.exh_codec.specs.PageImage.{IsImage};
+ghost use Rattle.exh_codec.specs.Block.{sealed};
+ghost use Rattle.exh_codec.specs.PageImage.{IsHeld, IsImage, content_of};
+ghost use Rattle.exh_page.specs.declared.page.TheConstants.{CAP_LIMIT};
 ghost use Rattle.exh_page.specs.Halves.{left_half, right_half, sent_to, union};
 ghost use Rattle.exh_page.specs.Page.{IsDivisible, IsLive, IsWellFormed, records_of, with_records};
 ghost use Rattle.exh_page.specs.Records.{IsRising, with_record};
 ghost use Rattle.exh_page.specs.Search.{IsSpot, IsStood};
-ghost use Rattle.exh_stores.specs.PageStore.{IfPage};
+ghost use Rattle.exh_stores.specs.PageStore.{HasHead, IfPage};
 ghost use Rattle.exh_frames.specs.CacheSize.{IsCacheSize};
-ghost use Rattle.exh_frames.specs.Decoded.{decoded_at};
+ghost use Rattle.exh_frames.specs.Decoded.{kept_at};
 
 use crate::cache_size::to_cache_size;
 use crate::decoded_pages::DecodedPages;
@@ -23,8 +26,8 @@ use std::marker::Model;
 use std::num::NonZeroUsize;
 
 /// Pages that stand as images of 4,096 bytes, each well formed under a keyer, and a cache of decoded
-/// ones, which no clause of `Pages` sees. A write changes the image at once. It never answers a page
-/// fault.
+/// ones, which no clause of `Pages` sees. A write changes the image at once and the page in the cache,
+/// which goes where it finds no memory. It never answers a page fault.
 #[derive(Drop)]
 pub struct FramedPages<K: Keyer> {
     images: Images<K>,
@@ -54,6 +57,7 @@ impl<K: Keyer> FramedPages<K> {
         requires { IsWellFormed (K.pseudokey_of keyer) first }
         ensures keyer { IfOk result (λ store. store.keyer ≡ keyer) }
         ensures pages { IfOk result (λ store. store.pages ≡ first ∷ []) }
+        ensures cap { IfOk result (λ store. store.decoded.cap ≡ cache_size) }
         ensures size { IsErrOf result CacheFault.Size ↔ (IsCacheSize cache_size → ⊥) }
     {
         let size = to_cache_size(cache_size)?;
@@ -71,6 +75,7 @@ impl<K: Keyer> FramedPages<K> {
         requires formed { AllByRecursion (IsWellFormed (K.pseudokey_of keyer)) pages.items }
         ensures keyer { IfOk result (λ store. store.keyer ≡ keyer) }
         ensures pages { IfOk result (λ store. store.pages ≡ pages.items) }
+        ensures cap { IfOk result (λ store. store.decoded.cap ≡ cache_size) }
         ensures size { IsErrOf result CacheFault.Size ↔ (IsCacheSize cache_size → ⊥) }
     {
         let size = to_cache_size(cache_size)?;
@@ -94,7 +99,7 @@ impl<K: Keyer> FramedPages<K> {
         size: NonZeroUsize,
     ) -> Result<FramedPages<K>, AllocError>
         requires { IsWellFormed (K.pseudokey_of keyer) first }
-        ensures { IfOk result (λ store. store ≡ record { keyer = keyer; pages = first ∷ []; decoded = [] }) }
+        ensures { IfOk result (λ store. store ≡ record { keyer = keyer; pages = first ∷ []; decoded = record { recent = []; beside = None; cap = non_zero_usize_get size } }) }
     {
         let mut images = Images::new(alloc, keyer);
         images.add(&first)?;
@@ -110,7 +115,7 @@ impl<K: Keyer> FramedPages<K> {
     ) -> Result<FramedPages<K>, AllocError>
         requires few { length given.items < 2 ^ 32 }
         requires formed { AllByRecursion (IsWellFormed (K.pseudokey_of keyer)) given.items }
-        ensures { IfOk result (λ store. store ≡ record { keyer = keyer; pages = given.items; decoded = [] }) }
+        ensures { IfOk result (λ store. store ≡ record { keyer = keyer; pages = given.items; decoded = record { recent = []; beside = None; cap = non_zero_usize_get size } }) }
     {
         let images = Images::of_pages(alloc, keyer, &given)?;
         FramedPages::of_images(alloc, images, size)
@@ -122,21 +127,77 @@ impl<K: Keyer> FramedPages<K> {
         images: Images<K>,
         size: NonZeroUsize,
     ) -> Result<FramedPages<K>, AllocError>
-        ensures { IfOk result (λ store. store ≡ record { keyer = images.keyer; pages = images.pages; decoded = [] }) }
+        ensures { IfOk result (λ store. store ≡ record { keyer = images.keyer; pages = images.pages; decoded = record { recent = []; beside = None; cap = non_zero_usize_get size } }) }
     {
         let decoded = DecodedPages::new(alloc, size)?;
         Ok(FramedPages { images, decoded })
     }
 
-    // Puts a page in place of the one of this number, which is then decoded no more.
-    fn write(&mut self, number: PageNo, page: &Page)
-        requires there { number < length self.old.pages }
-        requires formed { IsWellFormed (K.pseudokey_of self.old.keyer) page.now }
-        ensures keyer { self.new.keyer ≡ self.old.keyer }
-        ensures pages { self.new.pages ≡ slice_set self.old.pages number page.now }
+    /// How many decoded pages the cache has: no more than it may have.
+    pub fn cached(&self) -> usize
+        ensures len { result ≡ length self.now.decoded.recent }
+        ensures bound { result ≤ self.now.decoded.cap }
     {
-        self.images.set(number, page);
-        self.decoded.forget(number);
+        self.decoded.len()
+    }
+
+    // Puts a page in place of the one of this number, and into the cache.
+    fn write(&mut self, number: PageNo, page: Page)
+        requires there { number < length self.old.pages }
+        requires formed { IsWellFormed (K.pseudokey_of self.old.keyer) page }
+        ensures keyer { self.new.keyer ≡ self.old.keyer }
+        ensures pages { self.new.pages ≡ slice_set self.old.pages number page }
+        ensures cap { self.new.decoded.cap ≡ self.old.decoded.cap }
+    {
+        self.images.set(number, &page);
+        self.decoded.take(number);
+        self.decoded.keep_recent(number, page);
+    }
+
+    // Gets the page of this number into the cache, where that finds memory.
+    fn fill(&mut self, number: PageNo)
+        requires { number < length self.old.pages }
+        ensures keyer { self.new.keyer ≡ self.old.keyer }
+        ensures pages { self.new.pages ≡ self.old.pages }
+        ensures cap { self.new.decoded.cap ≡ self.old.decoded.cap }
+    {
+        if let Ok(page) = self.images.page(number) {
+            self.decoded.keep_recent(number, page);
+        }
+    }
+
+    // The same, where the page isn't decoded yet. In the cache it is then the one used last.
+    fn load(&mut self, number: PageNo)
+        requires { number < length self.old.pages }
+        ensures keyer { self.new.keyer ≡ self.old.keyer }
+        ensures pages { self.new.pages ≡ self.old.pages }
+        ensures cap { self.new.decoded.cap ≡ self.old.decoded.cap }
+    {
+        if !self.decoded.touch(number) {
+            self.fill(number);
+        }
+    }
+
+    // A copy of the page of this number, from the cache or laid out of its image.
+    fn copy(&self, number: PageNo) -> Result<Page, AllocError>
+        requires { number < length self.now.pages }
+        ensures { IfOk result (λ page. slice_get self.now.pages number ≡ Some page) }
+    {
+        match self.decoded.get(number) {
+            Some(page) => page.try_clone_with_room(0),
+            None => self.images.page(number),
+        }
+    }
+
+    // All of the page of this number but its records, from the cache or its image.
+    fn head_at(&self, number: PageNo) -> PageHead
+        requires { number < length self.now.pages }
+        ensures { HasHead self.now.pages number result }
+    {
+        match self.decoded.get(number) {
+            Some(page) => page.head(),
+            None => self.images.head(number),
+        }
     }
 
     // Adds a page. An `AllocError` where memory is refused, and its pages are as before.
@@ -146,6 +207,7 @@ impl<K: Keyer> FramedPages<K> {
         ensures keyer { self.new.keyer ≡ self.old.keyer }
         ensures ok { OnOk result (self.new.pages ≡ self.old.pages ++ page.now ∷ []) }
         ensures err { OnErr result (self.new.pages ≡ self.old.pages) }
+        ensures cap { self.new.decoded.cap ≡ self.old.decoded.cap }
     {
         self.images.add(page)
     }
@@ -155,7 +217,7 @@ impl<K: Keyer> Pages for FramedPages<K> {
     ghost use Rattle.std.specs.Prelude.{◌≢◌, ◌++◌, ◌∷◌, [], length, remove, slice_get, slice_set, Some, IsSome, IsOk, IfOk, OnOk, OnErr, ◌<◌};
     ghost use Rattle.exh_stores.specs.PageStore.{CountsFaults, TakesTheSame};
     ghost use Rattle.exh_frames.specs.FramedStore.{FramedStore};
-    ghost use Rattle.exh_frames.specs.Decoded.{decoded_at};
+    ghost use Rattle.exh_frames.specs.Decoded.{kept_at};
 
     ghost pages = { λ store. store.pages };
 
@@ -163,7 +225,7 @@ impl<K: Keyer> Pages for FramedPages<K> {
 
     ghost failures = { λ _. 0 };
 
-    ghost at_hand = { λ store number. IsSome (decoded_at number store.decoded) };
+    ghost at_hand = { λ store number. IsSome (kept_at number store.decoded) };
 
     ghost in_reach = { λ store number. number < length store.pages };
 
@@ -175,35 +237,59 @@ impl<K: Keyer> Pages for FramedPages<K> {
         0
     }
 
-    fn get(&mut self, number: PageNo) -> Result<Page, PagesFault> {
-        match self.decoded.get(number) {
-            Some(page) => Ok(page.try_clone_with_room(0)?),
-            None => Ok(self.images.page(number)?),
-        }
+    fn get(&mut self, number: PageNo) -> Result<Page, PagesFault>
+        requires { number < length self.old.pages }
+        ensures page { IfOk result (λ page. slice_get self.old.pages number ≡ Some page) }
+        ensures pages { self.new.pages ≡ self.old.pages }
+        ensures failures { CountsFaults result 0 0 }
+        ensures takes { TakesTheSame (λ (store : FramedStore K) page. IsWellFormed (K.pseudokey_of store.keyer) page) self.old self.new }
+        ensures cap { self.new.decoded.cap ≡ self.old.decoded.cap }
+    {
+        self.load(number);
+        Ok(self.copy(number)?)
     }
 
-    fn head(&mut self, number: PageNo) -> Result<PageHead, PagesFault> {
-        Ok(self.images.head(number))
+    fn head(&mut self, number: PageNo) -> Result<PageHead, PagesFault>
+        requires { number < length self.old.pages }
+        ensures head { IfOk result (HasHead self.old.pages number) }
+        ensures pages { self.new.pages ≡ self.old.pages }
+        ensures failures { CountsFaults result 0 0 }
+        ensures takes { TakesTheSame (λ (store : FramedStore K) page. IsWellFormed (K.pseudokey_of store.keyer) page) self.old self.new }
+        ensures always { IsOk result }
+        ensures cap { self.new.decoded.cap ≡ self.old.decoded.cap }
+    {
+        Ok(self.head_at(number))
     }
 
-    fn block(&mut self, number: PageNo, out: &mut [u8; BLOCK_LEN]) -> Result<(), PagesFault> {
-        *out = self.image(number);
+    fn block(&mut self, number: PageNo, out: &mut [u8; BLOCK_LEN]) -> Result<(), PagesFault>
+        requires there { number < length self.old.pages }
+        requires few { IfPage self.old.pages number (λ page. length (records_of page) ≤ CAP_LIMIT) }
+        ensures block { OnOk result (IfPage self.old.pages number (λ page. (out.new ≡ sealed (content_of page)) × IsHeld page)) }
+        ensures pages { self.new.pages ≡ self.old.pages }
+        ensures failures { CountsFaults result 0 0 }
+        ensures takes { TakesTheSame (λ (store : FramedStore K) page. IsWellFormed (K.pseudokey_of store.keyer) page) self.old self.new }
+        ensures always { IsOk result }
+        ensures cap { self.new.decoded.cap ≡ self.old.decoded.cap }
+    {
+        self.images.seal(number);
+        *out = self.images.block(number);
         Ok(())
     }
 
     fn fetch(&mut self, number: PageNo) -> Result<(), PagesFault>
         requires { number < length self.old.pages }
-        ensures at_hand { OnOk result (IsSome (decoded_at number self.new.decoded)) }
+        ensures at_hand { OnOk result (IsSome (kept_at number self.new.decoded)) }
         ensures pages { self.new.pages ≡ self.old.pages }
         ensures failures { CountsFaults result 0 0 }
         ensures takes { TakesTheSame (λ (store : FramedStore K) page. IsWellFormed (K.pseudokey_of store.keyer) page) self.old self.new }
-        ensures already { IsSome (decoded_at number self.old.decoded) → IsOk result }
+        ensures already { IsSome (kept_at number self.old.decoded) → IsOk result }
+        ensures cap { self.new.decoded.cap ≡ self.old.decoded.cap }
     {
         if self.decoded.touch(number) {
             return Ok(());
         }
         let page = self.images.page(number)?;
-        self.decoded.keep(number, page)?;
+        self.decoded.keep(number, page);
         Ok(())
     }
 
@@ -214,13 +300,25 @@ impl<K: Keyer> Pages for FramedPages<K> {
         }
     }
 
-    // Each image is within reach.
-    fn reach(&mut self, _number: PageNo) -> Result<(), PagesFault> {
+    // Each image is within reach. A page that finds no memory in the cache is read in its image.
+    fn reach(&mut self, number: PageNo) -> Result<(), PagesFault>
+        requires { number < length self.old.pages }
+        ensures in_reach { OnOk result (number < length self.new.pages) }
+        ensures pages { self.new.pages ≡ self.old.pages }
+        ensures failures { CountsFaults result 0 0 }
+        ensures takes { TakesTheSame (λ (store : FramedStore K) page. IsWellFormed (K.pseudokey_of store.keyer) page) self.old self.new }
+        ensures always { IsOk result }
+        ensures cap { self.new.decoded.cap ≡ self.old.decoded.cap }
+    {
+        self.load(number);
         Ok(())
     }
 
-    fn find(&self, number: PageNo, _pseudokey: u64, key: &Key) -> Lookup<'_> {
-        self.images.find(number, key)
+    fn find(&self, number: PageNo, pseudokey: u64, key: &Key) -> Lookup<'_> {
+        match self.decoded.get(number) {
+            Some(page) => page.look_up(pseudokey, key),
+            None => self.images.find(number, key),
+        }
     }
 
     fn put_at(
@@ -240,9 +338,14 @@ impl<K: Keyer> Pages for FramedPages<K> {
         ensures failures { CountsFaults result 0 0 }
         ensures takes { TakesTheSame (λ (store : FramedStore K) page. IsWellFormed (K.pseudokey_of store.keyer) page) self.old self.new }
         ensures always { IsOk result }
+        ensures cap { self.new.decoded.cap ≡ self.old.decoded.cap }
     {
         self.images.put(number, stood, pseudokey, key, value);
-        self.decoded.forget(number);
+        if let Some(mut page) = self.decoded.take(number) {
+            if page.put_at(stood, pseudokey, key, value).is_ok() {
+                self.decoded.keep_recent(number, page);
+            }
+        }
         Ok(())
     }
 
@@ -256,9 +359,13 @@ impl<K: Keyer> Pages for FramedPages<K> {
         ensures failures { CountsFaults result 0 0 }
         ensures takes { TakesTheSame (λ (store : FramedStore K) page. IsWellFormed (K.pseudokey_of store.keyer) page) self.old self.new }
         ensures always { IsOk result }
+        ensures cap { self.new.decoded.cap ≡ self.old.decoded.cap }
     {
         self.images.remove(number, spot);
-        self.decoded.forget(number);
+        if let Some(mut page) = self.decoded.take(number) {
+            page.remove_at(spot);
+            self.decoded.keep_recent(number, page);
+        }
         Ok(())
     }
 
@@ -270,8 +377,9 @@ impl<K: Keyer> Pages for FramedPages<K> {
         ensures failures { CountsFaults result 0 0 }
         ensures takes { TakesTheSame (λ (store : FramedStore K) page. IsWellFormed (K.pseudokey_of store.keyer) page) self.old self.new }
         ensures always { IsOk result }
+        ensures cap { self.new.decoded.cap ≡ self.old.decoded.cap }
     {
-        self.write(number, &page);
+        self.write(number, page);
         Ok(())
     }
 
@@ -292,16 +400,27 @@ impl<K: Keyer> Pages for FramedPages<K> {
         ensures failures { CountsFaults result 0 0 }
         ensures takes { TakesTheSame (λ (store : FramedStore K) page. IsWellFormed (K.pseudokey_of store.keyer) page) self.old self.new }
         ensures always { IsOk result }
+        ensures cap { self.new.decoded.cap ≡ self.old.decoded.cap }
     {
-        self.write(number, &page);
-        self.write(other, &twin);
+        self.write(number, page);
+        self.write(other, twin);
         Ok(())
     }
 
-    fn grow_and_set(&mut self, new: Page, number: PageNo, page: Page) -> Result<(), PagesFault> {
+    fn grow_and_set(&mut self, new: Page, number: PageNo, page: Page) -> Result<(), PagesFault>
+        requires there { number < length self.old.pages }
+        requires room { length self.old.pages < 2 ^ 32 - 1 }
+        requires new_taken { IsWellFormed (K.pseudokey_of self.old.keyer) new }
+        requires taken { IsWellFormed (K.pseudokey_of self.old.keyer) page }
+        ensures ok { OnOk result (self.new.pages ≡ slice_set self.old.pages number page ++ new ∷ []) }
+        ensures err { OnErr result (self.new.pages ≡ self.old.pages) }
+        ensures failures { CountsFaults result 0 0 }
+        ensures takes { TakesTheSame (λ (store : FramedStore K) page. IsWellFormed (K.pseudokey_of store.keyer) page) self.old self.new }
+        ensures cap { self.new.decoded.cap ≡ self.old.decoded.cap }
+    {
         // The new image first: nothing may fail once a page has changed.
         self.add(&new)?;
-        self.write(number, &page);
+        self.write(number, page);
         Ok(())
     }
 
@@ -317,16 +436,33 @@ impl<K: Keyer> Pages for FramedPages<K> {
         ensures failures { CountsFaults result 0 0 }
         ensures takes { TakesTheSame (λ (store : FramedStore K) page. IsWellFormed (K.pseudokey_of store.keyer) page) self.old self.new }
         ensures always { IsOk result }
+        ensures cap { self.new.decoded.cap ≡ self.old.decoded.cap }
     {
         self.images.split_into(number, right);
-        self.decoded.forget(number);
-        self.decoded.forget(right);
+        self.decoded.take(number);
+        self.decoded.take(right);
+        self.fill(number);
+        self.fill(right);
         Ok(())
     }
 
-    fn split_off(&mut self, number: PageNo) -> Result<(), PagesFault> {
+    fn split_off(&mut self, number: PageNo) -> Result<(), PagesFault>
+        requires there { number < length self.old.pages }
+        requires room { length self.old.pages < 2 ^ 32 - 1 }
+        requires divisible { IfPage self.old.pages number IsDivisible }
+        requires taken { IfPage self.old.pages number (λ page. IsWellFormed (K.pseudokey_of self.old.keyer) (left_half (length self.old.pages) page)) }
+        requires right_taken { IfPage self.old.pages number (λ page. IsWellFormed (K.pseudokey_of self.old.keyer) (right_half page)) }
+        ensures ok { OnOk result (IfPage self.old.pages number (λ page. self.new.pages ≡ slice_set self.old.pages number (left_half (length self.old.pages) page) ++ right_half page ∷ [])) }
+        ensures err { OnErr result (self.new.pages ≡ self.old.pages) }
+        ensures failures { CountsFaults result 0 0 }
+        ensures takes { TakesTheSame (λ (store : FramedStore K) page. IsWellFormed (K.pseudokey_of store.keyer) page) self.old self.new }
+        ensures cap { self.new.decoded.cap ≡ self.old.decoded.cap }
+    {
+        let right = self.images.count();
         self.images.split_off(number)?;
-        self.decoded.forget(number);
+        self.decoded.take(number);
+        self.fill(number);
+        self.fill(right);
         Ok(())
     }
 
@@ -344,10 +480,13 @@ impl<K: Keyer> Pages for FramedPages<K> {
         ensures failures { CountsFaults result 0 0 }
         ensures takes { TakesTheSame (λ (store : FramedStore K) page. IsWellFormed (K.pseudokey_of store.keyer) page) self.old self.new }
         ensures always { IsOk result }
+        ensures cap { self.new.decoded.cap ≡ self.old.decoded.cap }
     {
         self.images.merge(parent, number, buddy);
-        self.decoded.forget(number);
-        self.decoded.forget(buddy);
+        self.decoded.take(number);
+        self.decoded.take(buddy);
+        self.fill(number);
+        self.fill(buddy);
         Ok(())
     }
 }

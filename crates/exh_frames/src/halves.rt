@@ -5,46 +5,50 @@ ghost use Rattle.exh_page.specs.declared.page.Page.TheVariants.{Live};
 ghost use Rattle.exh_page.specs.declared.page.TheConstants.{CAP_LIMIT};
 ghost use Rattle.exh_page.specs.declared.record.Record.{Record as RecordType};
 ghost use Rattle.exh_page.specs.Halves.{left_half, link_of, right_half, union};
+ghost use Rattle.exh_page.specs.Page.{records_of};
 ghost use Rattle.exh_page.specs.PageHead.{count_in};
 ghost use Rattle.exh_codec.specs.declared.block.TheConstants.{CONTENT_LEN};
 ghost use Rattle.exh_codec.specs.declared.head.TheConstants.{HEAD_LEN};
 ghost use Rattle.exh_codec.specs.Head.{head_bytes, head_with};
 ghost use Rattle.exh_codec.specs.PageImage.{padded};
-ghost use Rattle.exh_frames.specs.InPlace.{AreUnited, HasContent, IsSplitBlock};
+ghost use Rattle.exh_frames.specs.InPlace.{AreKeyed, AreUnited, HasContent, IsSplitBlock};
 
 use crate::cell::{COUNT_AT, starts_of};
+use crate::pseudokeys::pseudokeys_from;
 use crate::search::index_of_place;
 use exh_codec::{BLOCK_LEN, HEAD_LEN, put_head};
-use exh_keyer::Keyer;
-use exh_page::PageHead;
+use exh_page::{CAP_LIMIT, PageHead};
 use exh_prefix::{PageNo, Prefix};
 
 /// Splits the image of a live page of this prefix, shorter than `LIMIT`, and this right link: it keeps
 /// the left half, which links to the page of number `right`, and the image of the right half is
-/// answered, with no digest. At most five keys are hashed.
-pub(crate) fn split_block<K: Keyer>(
-    keyer: &K,
+/// answered, with no digest, and the pseudokeys of its records. Those of the left half stand first
+/// among the ones that were handed in.
+pub(crate) fn split_block(
     block: &mut [u8; BLOCK_LEN],
+    pseudokeys: &[u64; CAP_LIMIT],
     prefix: Prefix,
     link: Option<PageNo>,
     right: PageNo,
-) -> [u8; BLOCK_LEN]
+) -> ([u8; BLOCK_LEN], [u64; CAP_LIMIT])
     requires short { length prefix < LIMIT }
-    requires split { (records : List RecordType) × IsSplitBlock (K.pseudokey_of keyer.now) block.old prefix link records }
-    ensures left { (records : List RecordType) → IsSplitBlock (K.pseudokey_of keyer.now) block.old prefix link records → HasContent block.new (left_half right (Live prefix link records)) }
-    ensures right { (records : List RecordType) → IsSplitBlock (K.pseudokey_of keyer.now) block.old prefix link records → HasContent result (right_half (Live prefix link records)) }
+    requires split { (records : List RecordType) × IsSplitBlock pseudokeys.now block.old prefix link records }
+    ensures left { (records : List RecordType) → IsSplitBlock pseudokeys.now block.old prefix link records → HasContent block.new (left_half right (Live prefix link records)) }
+    ensures left_keyed { (records : List RecordType) → IsSplitBlock pseudokeys.now block.old prefix link records → AreKeyed (records_of (left_half right (Live prefix link records))) pseudokeys.now }
+    ensures right { (records : List RecordType) → IsSplitBlock pseudokeys.now block.old prefix link records → HasContent result.0 (right_half (Live prefix link records)) }
+    ensures right_keyed { (records : List RecordType) → IsSplitBlock pseudokeys.now block.old prefix link records → AreKeyed (records_of (right_half (Live prefix link records))) result.1 }
 {
     let (Some(left), Some(twin)) = (prefix.child(false), prefix.child(true)) else {
         unreachable!();
     };
     let starts = starts_of(block);
     let count = usize::from(block[COUNT_AT]);
-    let cut = index_of_place(keyer, block, &starts, twin.low(), &[]);
+    let cut = index_of_place(block, pseudokeys, &starts, twin.low(), &[]);
     let (start, end) = (starts[cut], starts[count]);
     let other = lay_run(&live_head(twin, link, count - cut), &block[start..end]);
     block[start..end].fill(0);
     put_head(block, &live_head(left, Some(right), cut));
-    other
+    (other, pseudokeys_from(pseudokeys, count, cut))
 }
 
 /// Puts the records of another live page's image behind those of this one, and gives it a parent's

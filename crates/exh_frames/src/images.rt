@@ -4,7 +4,6 @@ ghost use Rattle.exh_page.specs.Halves.{left_half, right_half, sent_to, union};
 ghost use Rattle.exh_page.specs.Lookup.{HasPseudokey, IsLookup};
 ghost use Rattle.exh_page.specs.Page.{IsDivisible, IsLive, IsWellFormed, records_of};
 ghost use Rattle.exh_page.specs.Search.{IsStood};
-ghost use Rattle.exh_page.specs.declared.page.Page.{Page as PageType};
 ghost use Rattle.exh_prefix.specs.Layout.{written_version};
 ghost use Rattle.exh_codec.specs.PageImage.{IsImage};
 ghost use Rattle.exh_page.specs.declared.page.TheConstants.{CAP_LIMIT};
@@ -13,13 +12,10 @@ ghost use Rattle.exh_frames.specs.PageImages.{put_into, taken_out};
 
 use crate::image::Image;
 use crate::runs::Runs;
-use exh_codec::{
-    BLOCK_LEN, ImageFault, ReadPages, blocks_are_read, decode_content, decode_head,
-    images_are_sealed,
-};
+use exh_codec::{BLOCK_LEN, ReadPages, blocks_are_read, decode_head, images_are_sealed};
 use exh_keyer::Keyer;
 use exh_page::{Key, Lookup, Page, PageHead, PageList, Spot, Value};
-use exh_prefix::{PageNo, Prefix, WRITTEN};
+use exh_prefix::{PageNo, Prefix};
 use std::alloc::{AllocError, Global};
 use std::marker::Model;
 
@@ -72,18 +68,15 @@ impl<K: Keyer> Images<K> {
         self.images.len() as PageNo
     }
 
-    /// The page of an image. It takes memory for the records: an `AllocError` where that is refused.
+    /// The page of an image. No key is hashed, and nothing is tested. It takes memory for the records: an
+    /// `AllocError` where that is refused.
     pub fn page(&self, number: PageNo) -> Result<Page, AllocError>
         requires { number < length self.now.pages }
         ensures { IfOk result (λ page. slice_get self.now.pages number ≡ Some page) }
     {
         let alloc = self.images.allocator();
         let image = &self.images[number as usize];
-        match decode_content(alloc, WRITTEN, &self.keyer, &image.block) {
-            Ok(page) => Ok(page),
-            Err(ImageFault::Memory) => Err(AllocError),
-            Err(_) => unreachable!(),
-        }
+        image.page(alloc)
     }
 
     /// All of an image's page but its records, with no page in memory.
@@ -134,9 +127,8 @@ impl<K: Keyer> Images<K> {
         ensures keyer { self.new.keyer ≡ self.old.keyer }
         ensures pages { IfPage self.old.pages number (λ page. self.new.pages ≡ slice_set self.old.pages number (put_into (record { pseudokey = pseudokey; key = key.now; value = value.now }) page)) }
     {
-        let keyer = self.keyer;
         let image = &mut self.images[number as usize];
-        image.put(&keyer, stood, pseudokey, key, value);
+        image.put(stood, pseudokey, key, value);
     }
 
     /// Takes the record of a spot out of the page of this number, which is live. It takes no memory.
@@ -163,9 +155,8 @@ impl<K: Keyer> Images<K> {
         ensures keyer { self.new.keyer ≡ self.old.keyer }
         ensures pages { IfPage self.old.pages number (λ page. self.new.pages ≡ slice_set (slice_set self.old.pages number (left_half right page)) right (right_half page)) }
     {
-        let keyer = self.keyer;
         let image = &mut self.images[number as usize];
-        let half = image.split(&keyer, right);
+        let half = image.split(right);
         self.images[right as usize] = half;
     }
 
@@ -182,10 +173,9 @@ impl<K: Keyer> Images<K> {
         ensures err { OnErr result (self.new.pages ≡ self.old.pages) }
     {
         self.images.reserve()?;
-        let keyer = self.keyer;
         let right = self.images.len() as PageNo;
         let image = &mut self.images[number as usize];
-        let half = image.split(&keyer, right);
+        let half = image.split(right);
         self.images.push_reserved(half);
         Ok(())
     }
@@ -206,9 +196,10 @@ impl<K: Keyer> Images<K> {
         let PageHead::Live { prefix, right, .. } = self.head(buddy) else {
             unreachable!();
         };
-        let other = self.images[buddy as usize].block;
+        let twin = &self.images[buddy as usize];
+        let (other, others) = (twin.block, twin.pseudokeys);
         let image = &mut self.images[number as usize];
-        image.unite(&other, parent, right);
+        image.unite(&other, &others, parent, right);
         self.images[buddy as usize] = Image::of(&Page::Forward {
             low: prefix.low(),
             target: number,
@@ -228,20 +219,31 @@ impl<K: Keyer> Images<K> {
         Ok(())
     }
 
-    /// Adds the page that a block is the image of. An `AllocError` where memory is refused, and nothing
-    /// has changed.
-    pub fn add_block(&mut self, block: &[u8; BLOCK_LEN]) -> Result<(), AllocError>
+    /// Adds a page that a block is the image of. No key is hashed. An `AllocError` where memory is
+    /// refused, and nothing has changed.
+    pub fn add_block(&mut self, block: &[u8; BLOCK_LEN], page: &Page) -> Result<(), AllocError>
         requires room { length self.old.pages < 2 ^ 32 - 1 }
-        requires image { (page : PageType) × IsImage written_version (K.pseudokey_of self.old.keyer) page block.now }
+        requires image { IsImage written_version (K.pseudokey_of self.old.keyer) page.now block.now }
         ensures keyer { self.new.keyer ≡ self.old.keyer }
-        ensures ok { OnOk result ((page : PageType) → IsImage written_version (K.pseudokey_of self.old.keyer) page block.now → self.new.pages ≡ self.old.pages ++ page ∷ []) }
+        ensures ok { OnOk result (self.new.pages ≡ self.old.pages ++ page.now ∷ []) }
         ensures err { OnErr result (self.new.pages ≡ self.old.pages) }
     {
         blocks_are_read();
         images_are_sealed();
         self.images.reserve()?;
-        self.images.push_reserved(Image::of_block(block));
+        self.images.push_reserved(Image::of_block(block, page));
         Ok(())
+    }
+
+    /// Makes the digest of a page's image, where it isn't made yet, and keeps it. It takes no memory.
+    pub fn seal(&mut self, number: PageNo)
+        requires { number < length self.old.pages }
+        ensures keyer { self.new.keyer ≡ self.old.keyer }
+        ensures pages { self.new.pages ≡ self.old.pages }
+    {
+        blocks_are_read();
+        let image = &mut self.images[number as usize];
+        image.seal();
     }
 
     /// The image of a page, with its digest.
@@ -269,7 +271,7 @@ impl<K: Keyer> PageList for Images<K> {
     }
 }
 
-/// Keeps the blocks alone, each with its digest.
+/// Keeps the blocks, each with its digest, and the pseudokeys of its records.
 impl<K: Keyer> ReadPages<K> for Images<K> {
     ghost use Rattle.exh_page.specs.Page.{IsWellFormed};
 
@@ -279,7 +281,7 @@ impl<K: Keyer> ReadPages<K> for Images<K> {
         Images::new(alloc, keyer)
     }
 
-    fn push(&mut self, block: &[u8; BLOCK_LEN], _page: Page) -> Result<(), AllocError> {
-        self.add_block(block)
+    fn push(&mut self, block: &[u8; BLOCK_LEN], page: Page) -> Result<(), AllocError> {
+        self.add_block(block, &page)
     }
 }

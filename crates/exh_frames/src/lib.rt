@@ -6,7 +6,7 @@
 #![tactic(auto)]
 
 pub use cache_size::{CACHE_SIZE_LIMIT, CacheFault};
-pub use exh_stores::{Pages, PagesFault, PlainMaker, PlainPages, StoreMaker};
+pub use exh_stores::{PageAtHand, Pages, PagesFault, PlainMaker, PlainPages, StoreMaker};
 pub use failing_pages::FailingPages;
 pub use framed_maker::FramedMaker;
 pub use framed_pages::FramedPages;
@@ -25,7 +25,9 @@ mod gap;
 mod halves;
 mod image;
 mod images;
+mod laid_records;
 mod pages_call;
+mod pseudokeys;
 mod runs;
 mod search;
 mod stores;

@@ -5,8 +5,7 @@ ghost use Rattle.exh_frames.specs.InPlace.{AreHashed, AreStarts, HasContent, IsP
 
 use crate::cell::{COUNT_AT, STARTS_LEN, cell_at};
 use exh_codec::{BLOCK_LEN, HEAD_LEN};
-use exh_keyer::Keyer;
-use exh_page::{Key, LentValue, Spot};
+use exh_page::{CAP_LIMIT, Key, LentValue, Spot};
 use std::cmp::Ordering;
 
 /// Where the record of a key stands in the image of a live page, and its value where it lies, or
@@ -28,17 +27,17 @@ pub(crate) fn find_key<'a>(block: &'a [u8; BLOCK_LEN], key: &Key) -> Option<(Spo
     None
 }
 
-/// How many records of an image stand before the place of a pseudokey and the bytes of a key. At most
-/// five keys are hashed.
-pub(crate) fn index_of_place<K: Keyer>(
-    keyer: &K,
+/// How many records of an image, of which these are the pseudokeys, stand before the place of a
+/// pseudokey and the bytes of a key.
+pub(crate) fn index_of_place(
     block: &[u8; BLOCK_LEN],
+    pseudokeys: &[u64; CAP_LIMIT],
     starts: &[usize; STARTS_LEN],
     pseudokey: u64,
     key: &[u8],
 ) -> usize
-    requires { (page : PageType) × HasContent block.now page × AreStarts (records_of page) starts.now × AreHashed (K.pseudokey_of keyer.now) (records_of page) }
-    ensures { (page : PageType) → HasContent block.now page → AreStarts (records_of page) starts.now → AreHashed (K.pseudokey_of keyer.now) (records_of page)
+    requires { (page : PageType) × HasContent block.now page × AreStarts (records_of page) starts.now × AreHashed pseudokeys.now (records_of page) }
+    ensures { (page : PageType) → HasContent block.now page → AreStarts (records_of page) starts.now → AreHashed pseudokeys.now (records_of page)
         → IsPlaceIn (pseudokey, key.now) (records_of page) result }
 {
     let mut low = 0;
@@ -46,7 +45,7 @@ pub(crate) fn index_of_place<K: Keyer>(
     while low < high {
         let middle = low + (high - low) / 2;
         let stood = cell_at(block, starts[middle]).key;
-        match keyer.pseudo(stood).cmp(&pseudokey).then(stood.cmp(&key)) {
+        match pseudokeys[middle].cmp(&pseudokey).then(stood.cmp(&key)) {
             Ordering::Less => low = middle + 1,
             Ordering::Equal | Ordering::Greater => high = middle,
         }

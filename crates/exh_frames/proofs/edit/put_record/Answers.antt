@@ -10,18 +10,18 @@ use Rattle.exh_frames.proofs.Contents.{edited_content, gap_in, has_records, put_
 use Rattle.exh_frames.proofs.edit.put_record.Goals as goal
 
 pub bounds-starts-from : goal.bounds-starts-from
-bounds-starts-from g c = let said = has_records c.args.block.now c.requires.0 c.requires.1.content in omega (arith, c.from.ensures, said.1.count, c.requires.1.content.few)
+bounds-starts-from c = let said = has_records c.args.block.now c.requires.0 c.requires.1.content in omega (arith, c.from.ensures, said.1.count, c.requires.1.content.few)
 
 pub overflow_sub-block : goal.overflow_sub-block
-overflow_sub-block g c =
+overflow_sub-block c =
     let page = c.requires.0 in
     let takes = c.requires.1 in
     let records = records_of page in
     let item : Record = record { pseudokey = c.args.pseudokey; key = c.args.key.now; value = c.args.value.now } in
     let block = c.args.block.now in
-    let gap = c.gap_for-gap.result in
+    let gap = c.open_gap-gap.result in
     let at = c.starts_of-starts.ensures page takes.content in
-    let edit = c.gap_for-gap.ensures page takes.content at takes.hashed takes.stands item refl in
+    let edit = c.open_gap-gap.ensures.edit page item at refl takes in
     let said = has_records block page takes.content in
     let used = used_at records c.starts_of-starts.result c.from.result at (c.from.ensures ∙ said.1.count) in
     let all : ℕ = slice_index c.starts_of-starts.result c.from.result in
@@ -29,15 +29,15 @@ overflow_sub-block g c =
     omega (arith, in_gap.stood)
 
 pub overflow_add-block : goal.overflow_add-block
-overflow_add-block g c =
+overflow_add-block c =
     let page = c.requires.0 in
     let takes = c.requires.1 in
     let records = records_of page in
     let item : Record = record { pseudokey = c.args.pseudokey; key = c.args.key.now; value = c.args.value.now } in
     let block = c.args.block.now in
-    let gap = c.gap_for-gap.result in
+    let gap = c.open_gap-gap.result in
     let at = c.starts_of-starts.ensures page takes.content in
-    let edit = c.gap_for-gap.ensures page takes.content at takes.hashed takes.stands item refl in
+    let edit = c.open_gap-gap.ensures.edit page item at refl takes in
     let said = has_records block page takes.content in
     let used = used_at records c.starts_of-starts.result c.from.result at (c.from.ensures ∙ said.1.count) in
     let all : ℕ = slice_index c.starts_of-starts.result c.from.result in
@@ -45,15 +45,15 @@ overflow_add-block g c =
     omega (arith, in_gap.few)
 
 pub resize-requires-clause-order : goal.resize-requires-clause-order
-resize-requires-clause-order g c =
+resize-requires-clause-order c =
     let page = c.requires.0 in
     let takes = c.requires.1 in
     let records = records_of page in
     let item : Record = record { pseudokey = c.args.pseudokey; key = c.args.key.now; value = c.args.value.now } in
     let block = c.args.block.now in
-    let gap = c.gap_for-gap.result in
+    let gap = c.open_gap-gap.result in
     let at = c.starts_of-starts.ensures page takes.content in
-    let edit = c.gap_for-gap.ensures page takes.content at takes.hashed takes.stands item refl in
+    let edit = c.open_gap-gap.ensures.edit page item at refl takes in
     let said = has_records block page takes.content in
     let used = used_at records c.starts_of-starts.result c.from.result at (c.from.ensures ∙ said.1.count) in
     let all : ℕ = slice_index c.starts_of-starts.result c.from.result in
@@ -61,15 +61,15 @@ resize-requires-clause-order g c =
     in_gap.order
 
 pub resize-requires-clause-within : goal.resize-requires-clause-within
-resize-requires-clause-within g c =
+resize-requires-clause-within c =
     let page = c.requires.0 in
     let takes = c.requires.1 in
     let records = records_of page in
     let item : Record = record { pseudokey = c.args.pseudokey; key = c.args.key.now; value = c.args.value.now } in
     let block = c.args.block.now in
-    let gap = c.gap_for-gap.result in
+    let gap = c.open_gap-gap.result in
     let at = c.starts_of-starts.ensures page takes.content in
-    let edit = c.gap_for-gap.ensures page takes.content at takes.hashed takes.stands item refl in
+    let edit = c.open_gap-gap.ensures.edit page item at refl takes in
     let said = has_records block page takes.content in
     let used = used_at records c.starts_of-starts.result c.from.result at (c.from.ensures ∙ said.1.count) in
     let all : ℕ = slice_index c.starts_of-starts.result c.from.result in
@@ -77,15 +77,15 @@ resize-requires-clause-within g c =
     in_gap.within
 
 pub resize-requires-clause-room : goal.resize-requires-clause-room
-resize-requires-clause-room g c =
+resize-requires-clause-room c =
     let page = c.requires.0 in
     let takes = c.requires.1 in
     let records = records_of page in
     let item : Record = record { pseudokey = c.args.pseudokey; key = c.args.key.now; value = c.args.value.now } in
     let block = c.args.block.now in
-    let gap = c.gap_for-gap.result in
+    let gap = c.open_gap-gap.result in
     let at = c.starts_of-starts.ensures page takes.content in
-    let edit = c.gap_for-gap.ensures page takes.content at takes.hashed takes.stands item refl in
+    let edit = c.open_gap-gap.ensures.edit page item at refl takes in
     let said = has_records block page takes.content in
     let used = used_at records c.starts_of-starts.result c.from.result at (c.from.ensures ∙ said.1.count) in
     let all : ℕ = slice_index c.starts_of-starts.result c.from.result in
@@ -93,15 +93,15 @@ resize-requires-clause-room g c =
     omega (arith, in_gap.short, c.cell_len.ensures.limit)
 
 pub slice_bounds-write_cell-count : goal.slice_bounds-write_cell-count
-slice_bounds-write_cell-count g c =
+slice_bounds-write_cell-count c =
     let page = c.requires.0 in
     let takes = c.requires.1 in
     let records = records_of page in
     let item : Record = record { pseudokey = c.args.pseudokey; key = c.args.key.now; value = c.args.value.now } in
     let block = c.args.block.now in
-    let gap = c.gap_for-gap.result in
+    let gap = c.open_gap-gap.result in
     let at = c.starts_of-starts.ensures page takes.content in
-    let edit = c.gap_for-gap.ensures page takes.content at takes.hashed takes.stands item refl in
+    let edit = c.open_gap-gap.ensures.edit page item at refl takes in
     let said = has_records block page takes.content in
     let used = used_at records c.starts_of-starts.result c.from.result at (c.from.ensures ∙ said.1.count) in
     let all : ℕ = slice_index c.starts_of-starts.result c.from.result in
@@ -109,15 +109,15 @@ slice_bounds-write_cell-count g c =
     omega (arith, in_gap.order, in_gap.within, in_gap.short)
 
 pub slice_bounds-write_cell-start : goal.slice_bounds-write_cell-start
-slice_bounds-write_cell-start g c =
+slice_bounds-write_cell-start c =
     let page = c.requires.0 in
     let takes = c.requires.1 in
     let records = records_of page in
     let item : Record = record { pseudokey = c.args.pseudokey; key = c.args.key.now; value = c.args.value.now } in
     let block = c.args.block.now in
-    let gap = c.gap_for-gap.result in
+    let gap = c.open_gap-gap.result in
     let at = c.starts_of-starts.ensures page takes.content in
-    let edit = c.gap_for-gap.ensures page takes.content at takes.hashed takes.stands item refl in
+    let edit = c.open_gap-gap.ensures.edit page item at refl takes in
     let said = has_records block page takes.content in
     let used = used_at records c.starts_of-starts.result c.from.result at (c.from.ensures ∙ said.1.count) in
     let all : ℕ = slice_index c.starts_of-starts.result c.from.result in
@@ -125,15 +125,15 @@ slice_bounds-write_cell-start g c =
     omega (arith, in_gap.order, in_gap.within, in_gap.short)
 
 pub write_cell-requires : goal.write_cell-requires
-write_cell-requires g c =
+write_cell-requires c =
     let page = c.requires.0 in
     let takes = c.requires.1 in
     let records = records_of page in
     let item : Record = record { pseudokey = c.args.pseudokey; key = c.args.key.now; value = c.args.value.now } in
     let block = c.args.block.now in
-    let gap = c.gap_for-gap.result in
+    let gap = c.open_gap-gap.result in
     let at = c.starts_of-starts.ensures page takes.content in
-    let edit = c.gap_for-gap.ensures page takes.content at takes.hashed takes.stands item refl in
+    let edit = c.open_gap-gap.ensures.edit page item at refl takes in
     let said = has_records block page takes.content in
     let used = used_at records c.starts_of-starts.result c.from.result at (c.from.ensures ∙ said.1.count) in
     let all : ℕ = slice_index c.starts_of-starts.result c.from.result in
@@ -141,14 +141,14 @@ write_cell-requires g c =
     let long = length-drop gap.start c.resize.new.block in
     omega (arith, in_gap.order, in_gap.within, in_gap.short, c.resize.array_long, long, length-take-le (4096 - gap.start) (drop gap.start c.resize.new.block) (omega (arith, c.resize.array_long, long)))
 
-pub returns : goal.returns
-returns g c page takes =
+pub returns-clause-content : goal.returns-clause-content
+returns-clause-content c page takes =
     let records = records_of page in
     let item : Record = record { pseudokey = c.args.pseudokey; key = c.args.key.now; value = c.args.value.now } in
     let block = c.args.block.now in
-    let gap = c.gap_for-gap.result in
+    let gap = c.open_gap-gap.result in
     let at = c.starts_of-starts.ensures page takes.content in
-    let edit = c.gap_for-gap.ensures page takes.content at takes.hashed takes.stands item refl in
+    let edit = c.open_gap-gap.ensures.edit page item at refl takes in
     let said = has_records block page takes.content in
     let used = used_at records c.starts_of-starts.result c.from.result at (c.from.ensures ∙ said.1.count) in
     let all : ℕ = slice_index c.starts_of-starts.result c.from.result in
@@ -168,3 +168,15 @@ returns g c page takes =
     ∙ ap (λ (n : ℕ). take gap.start counted ++ (image ++ drop (gap.start + n) after)) (sym c.cell_len.ensures.len)
     ∙ ap (λ (l : List ℕ). take gap.start counted ++ (image ++ l)) tail
     ∙ ap (λ (l : List ℕ). take gap.start counted ++ (l ++ rest)) (sym (append-nil image)))
+
+pub open_gap-gap-requires : goal.open_gap-gap-requires
+open_gap-gap-requires c =
+    let page = c.requires.0 in
+    let takes = c.requires.1 in
+    let item : Record = record { pseudokey = c.args.pseudokey; key = c.args.key.now; value = c.args.value.now } in
+    (page, item, c.starts_of-starts.ensures page takes.content, refl, takes)
+
+pub returns-clause-keyed : goal.returns-clause-keyed
+returns-clause-keyed c page takes =
+    let item : Record = record { pseudokey = c.args.pseudokey; key = c.args.key.now; value = c.args.value.now } in
+    c.open_gap-gap.ensures.keyed page item (c.starts_of-starts.ensures page takes.content) refl takes

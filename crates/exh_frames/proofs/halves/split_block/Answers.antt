@@ -7,23 +7,24 @@ use Rattle.exh_page.specs.declared.page_head.PageHead.{PageHead}
 use Rattle.exh_page.specs.declared.page_head.PageHead.TheVariants.{Live as LiveHead}
 use Rattle.exh_page.specs.declared.record.Record.{Record}
 use Rattle.exh_page.specs.PageHead.{count_in}
-use Rattle.exh_page.specs.ShareLemmas.{AreWords-hashed, both}
+use Rattle.exh_page.specs.ShareLemmas.{both}
 use Rattle.exh_codec.specs.Head.{head_bytes, head_with}
 use Rattle.exh_codec.specs.PageImage.{padded}
-use Rattle.exh_frames.specs.InPlace.{HasContent, IsPlaceIn}
+use Rattle.exh_frames.specs.InPlace.{AreKeyed, HasContent, IsPlaceIn}
 use Rattle.exh_frames.proofs.Contents.{has_records, length-bytes, used_at}
+use Rattle.exh_frames.proofs.Keyed.{keyed_drop, keyed_front, keyed_some, keyed_take}
 use Rattle.exh_frames.proofs.Laid.{cut_block, cut_end, cut_run, cut_start, left_share, other_block, right_share}
 use Rattle.exh_frames.proofs.halves.split_block.Goals as goal
 
 pub index_of_place-cut-requires : goal.index_of_place-cut-requires
-index_of_place-cut-requires g c =
+index_of_place-cut-requires c =
     let records = c.requires.split.0 in
     let split = c.requires.split.1 in
     let page = Live c.args.prefix c.args.link records in
-    (page, split.content, c.starts_of-starts.ensures page split.content, record { rising = split.are.rising; hashed = split.are.hashed })
+    (page, split.content, c.starts_of-starts.ensures page split.content, split.hashed)
 
 pub offset_bounds-starts-cut : goal.offset_bounds-starts-cut
-offset_bounds-starts-cut g c =
+offset_bounds-starts-cut c =
     let records = c.requires.split.0 in
     let split = c.requires.split.1 in
     let block = c.args.block.now in
@@ -34,7 +35,7 @@ offset_bounds-starts-cut g c =
     let twin_is : c.in-Some-Some.twin ≡ c.args.prefix ++ true ∷ [] = c.in-Some-Some.ensures'.1 in
     let low_is : c.low.result ≡ low_of (c.args.prefix ++ true ∷ []) = c.low.ensures ∙ ap low_of twin_is in
     let cut = c.index_of_place-cut.result in
-    let placed = c.index_of_place-cut.ensures page split.content at (record { rising = split.are.rising; hashed = split.are.hashed }) in
+    let placed = c.index_of_place-cut.ensures page split.content at split.hashed in
     let place = subst (λ (n : ℕ). IsPlaceIn (n, []) records cut) low_is placed in
     let short = length-bytes records split.content.sized in
     let end = cut_end records c.starts_of-starts.result at cut c.from-count.result place.within all in
@@ -44,7 +45,7 @@ offset_bounds-starts-cut g c =
     omega (arith, place.within, few)
 
 pub bounds-starts-cut : goal.bounds-starts-cut
-bounds-starts-cut g c =
+bounds-starts-cut c =
     let records = c.requires.split.0 in
     let split = c.requires.split.1 in
     let block = c.args.block.now in
@@ -55,7 +56,7 @@ bounds-starts-cut g c =
     let twin_is : c.in-Some-Some.twin ≡ c.args.prefix ++ true ∷ [] = c.in-Some-Some.ensures'.1 in
     let low_is : c.low.result ≡ low_of (c.args.prefix ++ true ∷ []) = c.low.ensures ∙ ap low_of twin_is in
     let cut = c.index_of_place-cut.result in
-    let placed = c.index_of_place-cut.ensures page split.content at (record { rising = split.are.rising; hashed = split.are.hashed }) in
+    let placed = c.index_of_place-cut.ensures page split.content at split.hashed in
     let place = subst (λ (n : ℕ). IsPlaceIn (n, []) records cut) low_is placed in
     let short = length-bytes records split.content.sized in
     let end = cut_end records c.starts_of-starts.result at cut c.from-count.result place.within all in
@@ -65,14 +66,14 @@ bounds-starts-cut g c =
     omega (arith, place.within, few)
 
 pub bounds-starts-count : goal.bounds-starts-count
-bounds-starts-count g c =
+bounds-starts-count c =
     let records = c.requires.split.0 in
     let split = c.requires.split.1 in
     let said = has_records c.args.block.now (Live c.args.prefix c.args.link records) split.content in
     omega (arith, c.from-count.ensures, said.1.count, split.content.few)
 
 pub overflow_sub-count : goal.overflow_sub-count
-overflow_sub-count g c =
+overflow_sub-count c =
     let records = c.requires.split.0 in
     let split = c.requires.split.1 in
     let block = c.args.block.now in
@@ -83,7 +84,7 @@ overflow_sub-count g c =
     let twin_is : c.in-Some-Some.twin ≡ c.args.prefix ++ true ∷ [] = c.in-Some-Some.ensures'.1 in
     let low_is : c.low.result ≡ low_of (c.args.prefix ++ true ∷ []) = c.low.ensures ∙ ap low_of twin_is in
     let cut = c.index_of_place-cut.result in
-    let placed = c.index_of_place-cut.ensures page split.content at (record { rising = split.are.rising; hashed = split.are.hashed }) in
+    let placed = c.index_of_place-cut.ensures page split.content at split.hashed in
     let place = subst (λ (n : ℕ). IsPlaceIn (n, []) records cut) low_is placed in
     let short = length-bytes records split.content.sized in
     let end = cut_end records c.starts_of-starts.result at cut c.from-count.result place.within all in
@@ -93,7 +94,7 @@ overflow_sub-count g c =
     omega (arith, place.within, all)
 
 pub slice_bounds-lay_run-count : goal.slice_bounds-lay_run-count
-slice_bounds-lay_run-count g c =
+slice_bounds-lay_run-count c =
     let records = c.requires.split.0 in
     let split = c.requires.split.1 in
     let block = c.args.block.now in
@@ -104,7 +105,7 @@ slice_bounds-lay_run-count g c =
     let twin_is : c.in-Some-Some.twin ≡ c.args.prefix ++ true ∷ [] = c.in-Some-Some.ensures'.1 in
     let low_is : c.low.result ≡ low_of (c.args.prefix ++ true ∷ []) = c.low.ensures ∙ ap low_of twin_is in
     let cut = c.index_of_place-cut.result in
-    let placed = c.index_of_place-cut.ensures page split.content at (record { rising = split.are.rising; hashed = split.are.hashed }) in
+    let placed = c.index_of_place-cut.ensures page split.content at split.hashed in
     let place = subst (λ (n : ℕ). IsPlaceIn (n, []) records cut) low_is placed in
     let short = length-bytes records split.content.sized in
     let end = cut_end records c.starts_of-starts.result at cut c.from-count.result place.within all in
@@ -114,7 +115,7 @@ slice_bounds-lay_run-count g c =
     omega (arith, end)
 
 pub slice_bounds-lay_run-start : goal.slice_bounds-lay_run-start
-slice_bounds-lay_run-start g c =
+slice_bounds-lay_run-start c =
     let records = c.requires.split.0 in
     let split = c.requires.split.1 in
     let block = c.args.block.now in
@@ -125,7 +126,7 @@ slice_bounds-lay_run-start g c =
     let twin_is : c.in-Some-Some.twin ≡ c.args.prefix ++ true ∷ [] = c.in-Some-Some.ensures'.1 in
     let low_is : c.low.result ≡ low_of (c.args.prefix ++ true ∷ []) = c.low.ensures ∙ ap low_of twin_is in
     let cut = c.index_of_place-cut.result in
-    let placed = c.index_of_place-cut.ensures page split.content at (record { rising = split.are.rising; hashed = split.are.hashed }) in
+    let placed = c.index_of_place-cut.ensures page split.content at split.hashed in
     let place = subst (λ (n : ℕ). IsPlaceIn (n, []) records cut) low_is placed in
     let short = length-bytes records split.content.sized in
     let end = cut_end records c.starts_of-starts.result at cut c.from-count.result place.within all in
@@ -135,7 +136,7 @@ slice_bounds-lay_run-start g c =
     omega (arith, end, start, used, short, few)
 
 pub slice_bounds-lay_run-end : goal.slice_bounds-lay_run-end
-slice_bounds-lay_run-end g c =
+slice_bounds-lay_run-end c =
     let records = c.requires.split.0 in
     let split = c.requires.split.1 in
     let block = c.args.block.now in
@@ -146,7 +147,7 @@ slice_bounds-lay_run-end g c =
     let twin_is : c.in-Some-Some.twin ≡ c.args.prefix ++ true ∷ [] = c.in-Some-Some.ensures'.1 in
     let low_is : c.low.result ≡ low_of (c.args.prefix ++ true ∷ []) = c.low.ensures ∙ ap low_of twin_is in
     let cut = c.index_of_place-cut.result in
-    let placed = c.index_of_place-cut.ensures page split.content at (record { rising = split.are.rising; hashed = split.are.hashed }) in
+    let placed = c.index_of_place-cut.ensures page split.content at split.hashed in
     let place = subst (λ (n : ℕ). IsPlaceIn (n, []) records cut) low_is placed in
     let short = length-bytes records split.content.sized in
     let end = cut_end records c.starts_of-starts.result at cut c.from-count.result place.within all in
@@ -156,7 +157,7 @@ slice_bounds-lay_run-end g c =
     omega (arith, end, start, used, short, few)
 
 pub lay_run-other-requires-clause-few : goal.lay_run-other-requires-clause-few
-lay_run-other-requires-clause-few g c =
+lay_run-other-requires-clause-few c =
     let records = c.requires.split.0 in
     let split = c.requires.split.1 in
     let block = c.args.block.now in
@@ -167,7 +168,7 @@ lay_run-other-requires-clause-few g c =
     let twin_is : c.in-Some-Some.twin ≡ c.args.prefix ++ true ∷ [] = c.in-Some-Some.ensures'.1 in
     let low_is : c.low.result ≡ low_of (c.args.prefix ++ true ∷ []) = c.low.ensures ∙ ap low_of twin_is in
     let cut = c.index_of_place-cut.result in
-    let placed = c.index_of_place-cut.ensures page split.content at (record { rising = split.are.rising; hashed = split.are.hashed }) in
+    let placed = c.index_of_place-cut.ensures page split.content at split.hashed in
     let place = subst (λ (n : ℕ). IsPlaceIn (n, []) records cut) low_is placed in
     let short = length-bytes records split.content.sized in
     let end = cut_end records c.starts_of-starts.result at cut c.from-count.result place.within all in
@@ -177,7 +178,7 @@ lay_run-other-requires-clause-few g c =
     subst (λ (h : PageHead). count_in h ≤ 16) (sym c.live_head.ensures) (omega (arith, all, few))
 
 pub lay_run-other-requires-clause-room : goal.lay_run-other-requires-clause-room
-lay_run-other-requires-clause-room g c =
+lay_run-other-requires-clause-room c =
     let records = c.requires.split.0 in
     let split = c.requires.split.1 in
     let block = c.args.block.now in
@@ -188,7 +189,7 @@ lay_run-other-requires-clause-room g c =
     let twin_is : c.in-Some-Some.twin ≡ c.args.prefix ++ true ∷ [] = c.in-Some-Some.ensures'.1 in
     let low_is : c.low.result ≡ low_of (c.args.prefix ++ true ∷ []) = c.low.ensures ∙ ap low_of twin_is in
     let cut = c.index_of_place-cut.result in
-    let placed = c.index_of_place-cut.ensures page split.content at (record { rising = split.are.rising; hashed = split.are.hashed }) in
+    let placed = c.index_of_place-cut.ensures page split.content at split.hashed in
     let place = subst (λ (n : ℕ). IsPlaceIn (n, []) records cut) low_is placed in
     let short = length-bytes records split.content.sized in
     let end = cut_end records c.starts_of-starts.result at cut c.from-count.result place.within all in
@@ -198,7 +199,7 @@ lay_run-other-requires-clause-room g c =
     omega (arith, ap length (cut_run records c.starts_of-starts.result at cut c.from-count.result place.within all block said.0 said.1.bytes), end, start, used, short, few)
 
 pub slice_bounds-fill-count : goal.slice_bounds-fill-count
-slice_bounds-fill-count g c =
+slice_bounds-fill-count c =
     let records = c.requires.split.0 in
     let split = c.requires.split.1 in
     let block = c.args.block.now in
@@ -209,7 +210,7 @@ slice_bounds-fill-count g c =
     let twin_is : c.in-Some-Some.twin ≡ c.args.prefix ++ true ∷ [] = c.in-Some-Some.ensures'.1 in
     let low_is : c.low.result ≡ low_of (c.args.prefix ++ true ∷ []) = c.low.ensures ∙ ap low_of twin_is in
     let cut = c.index_of_place-cut.result in
-    let placed = c.index_of_place-cut.ensures page split.content at (record { rising = split.are.rising; hashed = split.are.hashed }) in
+    let placed = c.index_of_place-cut.ensures page split.content at split.hashed in
     let place = subst (λ (n : ℕ). IsPlaceIn (n, []) records cut) low_is placed in
     let short = length-bytes records split.content.sized in
     let end = cut_end records c.starts_of-starts.result at cut c.from-count.result place.within all in
@@ -219,7 +220,7 @@ slice_bounds-fill-count g c =
     omega (arith, end)
 
 pub slice_bounds-fill-start : goal.slice_bounds-fill-start
-slice_bounds-fill-start g c =
+slice_bounds-fill-start c =
     let records = c.requires.split.0 in
     let split = c.requires.split.1 in
     let block = c.args.block.now in
@@ -230,7 +231,7 @@ slice_bounds-fill-start g c =
     let twin_is : c.in-Some-Some.twin ≡ c.args.prefix ++ true ∷ [] = c.in-Some-Some.ensures'.1 in
     let low_is : c.low.result ≡ low_of (c.args.prefix ++ true ∷ []) = c.low.ensures ∙ ap low_of twin_is in
     let cut = c.index_of_place-cut.result in
-    let placed = c.index_of_place-cut.ensures page split.content at (record { rising = split.are.rising; hashed = split.are.hashed }) in
+    let placed = c.index_of_place-cut.ensures page split.content at split.hashed in
     let place = subst (λ (n : ℕ). IsPlaceIn (n, []) records cut) low_is placed in
     let short = length-bytes records split.content.sized in
     let end = cut_end records c.starts_of-starts.result at cut c.from-count.result place.within all in
@@ -240,7 +241,7 @@ slice_bounds-fill-start g c =
     omega (arith, end, start, used, short, few)
 
 pub slice_bounds-fill-end : goal.slice_bounds-fill-end
-slice_bounds-fill-end g c =
+slice_bounds-fill-end c =
     let records = c.requires.split.0 in
     let split = c.requires.split.1 in
     let block = c.args.block.now in
@@ -251,7 +252,7 @@ slice_bounds-fill-end g c =
     let twin_is : c.in-Some-Some.twin ≡ c.args.prefix ++ true ∷ [] = c.in-Some-Some.ensures'.1 in
     let low_is : c.low.result ≡ low_of (c.args.prefix ++ true ∷ []) = c.low.ensures ∙ ap low_of twin_is in
     let cut = c.index_of_place-cut.result in
-    let placed = c.index_of_place-cut.ensures page split.content at (record { rising = split.are.rising; hashed = split.are.hashed }) in
+    let placed = c.index_of_place-cut.ensures page split.content at split.hashed in
     let place = subst (λ (n : ℕ). IsPlaceIn (n, []) records cut) low_is placed in
     let short = length-bytes records split.content.sized in
     let end = cut_end records c.starts_of-starts.result at cut c.from-count.result place.within all in
@@ -261,7 +262,7 @@ slice_bounds-fill-end g c =
     omega (arith, end, start, used, short, few)
 
 pub put_head-requires : goal.put_head-requires
-put_head-requires g c =
+put_head-requires c =
     let records = c.requires.split.0 in
     let split = c.requires.split.1 in
     let block = c.args.block.now in
@@ -272,7 +273,7 @@ put_head-requires g c =
     let twin_is : c.in-Some-Some.twin ≡ c.args.prefix ++ true ∷ [] = c.in-Some-Some.ensures'.1 in
     let low_is : c.low.result ≡ low_of (c.args.prefix ++ true ∷ []) = c.low.ensures ∙ ap low_of twin_is in
     let cut = c.index_of_place-cut.result in
-    let placed = c.index_of_place-cut.ensures page split.content at (record { rising = split.are.rising; hashed = split.are.hashed }) in
+    let placed = c.index_of_place-cut.ensures page split.content at split.hashed in
     let place = subst (λ (n : ℕ). IsPlaceIn (n, []) records cut) low_is placed in
     let short = length-bytes records split.content.sized in
     let end = cut_end records c.starts_of-starts.result at cut c.from-count.result place.within all in
@@ -282,7 +283,7 @@ put_head-requires g c =
     subst (λ (h : PageHead). count_in h ≤ 16) (sym c.live_head-2.ensures) (omega (arith, place.within, few))
 
 pub returns-clause-left : goal.returns-clause-left
-returns-clause-left g c records split =
+returns-clause-left c records split =
     let block = c.args.block.now in
     let page = Live c.args.prefix c.args.link records in
     let at = c.starts_of-starts.ensures page split.content in
@@ -291,15 +292,14 @@ returns-clause-left g c records split =
     let twin_is : c.in-Some-Some.twin ≡ c.args.prefix ++ true ∷ [] = c.in-Some-Some.ensures'.1 in
     let low_is : c.low.result ≡ low_of (c.args.prefix ++ true ∷ []) = c.low.ensures ∙ ap low_of twin_is in
     let cut = c.index_of_place-cut.result in
-    let placed = c.index_of_place-cut.ensures page split.content at (record { rising = split.are.rising; hashed = split.are.hashed }) in
+    let placed = c.index_of_place-cut.ensures page split.content at split.hashed in
     let place = subst (λ (n : ℕ). IsPlaceIn (n, []) records cut) low_is placed in
     let short = length-bytes records split.content.sized in
     let end = cut_end records c.starts_of-starts.result at cut c.from-count.result place.within all in
     let start = cut_start records c.starts_of-starts.result at cut c.from-count.result place.within all in
     let used = used_at records c.starts_of-starts.result c.from-count.result at all in
     let few = split.content.few in
-    let pseudo = g.K.Keyer.pseudokey_of c.args.keyer.now in
-    let begun = both _ _ records split.are.begun (AreWords-hashed pseudo (g.met.K.Keyer.pseudokey_fits c.args.keyer.now) records split.are.hashed) in
+    let begun = both _ _ records split.begun split.words in
     let share = left_share c.args.prefix c.requires.short records cut place begun in
     let starts = c.starts_of-starts.result in
     let n = c.from-count.result in
@@ -318,7 +318,7 @@ returns-clause-left g c records split =
     (subst (λ (b : List ℕ). HasContent b (Live half (Some c.args.right) (take cut records))) (sym new) cut_is))
 
 pub returns-clause-right : goal.returns-clause-right
-returns-clause-right g c records split =
+returns-clause-right c records split =
     let block = c.args.block.now in
     let page = Live c.args.prefix c.args.link records in
     let at = c.starts_of-starts.ensures page split.content in
@@ -327,15 +327,14 @@ returns-clause-right g c records split =
     let twin_is : c.in-Some-Some.twin ≡ c.args.prefix ++ true ∷ [] = c.in-Some-Some.ensures'.1 in
     let low_is : c.low.result ≡ low_of (c.args.prefix ++ true ∷ []) = c.low.ensures ∙ ap low_of twin_is in
     let cut = c.index_of_place-cut.result in
-    let placed = c.index_of_place-cut.ensures page split.content at (record { rising = split.are.rising; hashed = split.are.hashed }) in
+    let placed = c.index_of_place-cut.ensures page split.content at split.hashed in
     let place = subst (λ (n : ℕ). IsPlaceIn (n, []) records cut) low_is placed in
     let short = length-bytes records split.content.sized in
     let end = cut_end records c.starts_of-starts.result at cut c.from-count.result place.within all in
     let start = cut_start records c.starts_of-starts.result at cut c.from-count.result place.within all in
     let used = used_at records c.starts_of-starts.result c.from-count.result at all in
     let few = split.content.few in
-    let pseudo = g.K.Keyer.pseudokey_of c.args.keyer.now in
-    let begun = both _ _ records split.are.begun (AreWords-hashed pseudo (g.met.K.Keyer.pseudokey_fits c.args.keyer.now) records split.are.hashed) in
+    let begun = both _ _ records split.begun split.words in
     let share = right_share c.args.prefix c.requires.short records cut place begun in
     let starts = c.starts_of-starts.result in
     let n = c.from-count.result in
@@ -348,3 +347,52 @@ returns-clause-right g c records split =
     let is = other_block records starts at cut n place.within all c.args.prefix half c.args.link c.args.link block other run (n - cut) split.content count (cut_run records starts at cut n place.within all block said.0 said.1.bytes) laid in
     subst (λ (l : List Record). HasContent other (Live (c.args.prefix ++ true ∷ []) c.args.link l)) (sym share)
     (subst (λ (p : List Bool). HasContent other (Live p c.args.link (drop cut records))) twin_is is)
+
+pub pseudokeys_from-requires-clause-within : goal.pseudokeys_from-requires-clause-within
+pseudokeys_from-requires-clause-within c =
+    let records = c.requires.split.0 in
+    let split = c.requires.split.1 in
+    let page = Live c.args.prefix c.args.link records in
+    let said = has_records c.args.block.now page split.content in
+    let placed = c.index_of_place-cut.ensures page split.content (c.starts_of-starts.ensures page split.content) split.hashed in
+    omega (arith, placed.within, c.from-count.ensures, said.1.count)
+
+pub pseudokeys_from-requires-clause-few : goal.pseudokeys_from-requires-clause-few
+pseudokeys_from-requires-clause-few c =
+    let records = c.requires.split.0 in
+    let split = c.requires.split.1 in
+    let said = has_records c.args.block.now (Live c.args.prefix c.args.link records) split.content in
+    let few = split.content.few in
+    omega (arith, few, c.from-count.ensures, said.1.count)
+
+pub returns-clause-left_keyed : goal.returns-clause-left_keyed
+returns-clause-left_keyed c records split =
+    let page = Live c.args.prefix c.args.link records in
+    let at = c.starts_of-starts.ensures page split.content in
+    let twin_is : c.in-Some-Some.twin ≡ c.args.prefix ++ true ∷ [] = c.in-Some-Some.ensures'.1 in
+    let low_is : c.low.result ≡ low_of (c.args.prefix ++ true ∷ []) = c.low.ensures ∙ ap low_of twin_is in
+    let cut = c.index_of_place-cut.result in
+    let placed = c.index_of_place-cut.ensures page split.content at split.hashed in
+    let place = subst (λ (n : ℕ). IsPlaceIn (n, []) records cut) low_is placed in
+    let begun = both _ _ records split.begun split.words in
+    let share = left_share c.args.prefix c.requires.short records cut place begun in
+    subst (λ (l : List Record). AreKeyed l c.args.pseudokeys.now) (sym share) (keyed_take records c.args.pseudokeys.now cut split.hashed.keyed)
+
+pub returns-clause-right_keyed : goal.returns-clause-right_keyed
+returns-clause-right_keyed c records split =
+    let page = Live c.args.prefix c.args.link records in
+    let at = c.starts_of-starts.ensures page split.content in
+    let twin_is : c.in-Some-Some.twin ≡ c.args.prefix ++ true ∷ [] = c.in-Some-Some.ensures'.1 in
+    let low_is : c.low.result ≡ low_of (c.args.prefix ++ true ∷ []) = c.low.ensures ∙ ap low_of twin_is in
+    let cut = c.index_of_place-cut.result in
+    let placed = c.index_of_place-cut.ensures page split.content at split.hashed in
+    let place = subst (λ (n : ℕ). IsPlaceIn (n, []) records cut) low_is placed in
+    let begun = both _ _ records split.begun split.words in
+    let share = right_share c.args.prefix c.requires.short records cut place begun in
+    let said = has_records c.args.block.now page split.content in
+    let n : ℕ = c.from-count.result - cut in
+    let pseudokeys : List ℕ = c.args.pseudokeys.now in
+    let all : length (drop cut records) ≡ n = omega (arith, length-drop cut records, c.from-count.ensures, said.1.count) in
+    let run = keyed_some (drop cut records) (drop cut pseudokeys) n all (keyed_drop records pseudokeys cut split.hashed.keyed) in
+    subst (λ (l : List Record). AreKeyed l c.pseudokeys_from.result) (sym share)
+    (subst (AreKeyed (drop cut records)) (sym c.pseudokeys_from.ensures) (keyed_front (drop cut records) (take n (drop cut pseudokeys)) (drop n pseudokeys) run))

@@ -10,12 +10,12 @@ use Rattle.exh_frames.proofs.search.index_of_place.Given as goal
 
 -- the records below the one bound stand before the place, and those from the other on don't
 abbrev pub invariant-loop-low : goal.invariant-loop-low
-invariant-loop-low g l = record {
+invariant-loop-low l = record {
   order : l.low ≤ l.high;
-  found : (page : Page) → HasContent l.block page → AreStarts (records_of page) l.starts → AreHashed (g.K.Keyer.pseudokey_of l.keyer) (records_of page)
+  found : (page : Page) → HasContent l.block page → AreStarts (records_of page) l.starts → AreHashed l.pseudokeys (records_of page)
       → (l.high ≤ length (records_of page)) × AllBefore (l.pseudokey, l.key) (take l.low (records_of page))
       × AllByRecursion (λ r. is_lt (place_cmp (place_of r) (l.pseudokey, l.key)) ≡ false) (drop l.high (records_of page));
 }
 
 abbrev pub decreases-loop-low : goal.decreases-loop-low
-decreases-loop-low g l = l.high - l.low
+decreases-loop-low l = l.high - l.low

@@ -13,7 +13,7 @@ invariant_of-self-2 g c =
     let formed = subst (λ (l : ImageList g.row.K.Denot). IsWellFormed (g.K.Keyer.pseudokey_of l.keyer) c.args.page.now) (sym c.self.view_is) c.requires.formed in
     let room = subst (λ (l : ImageList g.row.K.Denot). length l.pages < 2 ^ 32 - 1) (sym c.self.view_is) c.requires.room in
     let items : c.push_reserved.new.self.items ≡ images ++ image ∷ [] = c.push_reserved.ensures ∙ ap (λ (l : List Image). l ++ image ∷ []) c.reserve.ensures.items in
-    subst (AreKept pseudo) (sym items) (kept_added pseudo images image c.args.page.now room (c.of.ensures pseudo formed).laid (c.of.ensures pseudo formed).read c.self.invariant)
+    subst (AreKept pseudo) (sym items) (kept_added pseudo images image c.args.page.now room (c.of.ensures pseudo formed) c.self.invariant)
 
 pub returns-clause-ok : goal.returns-clause-ok
 returns-clause-ok g c =

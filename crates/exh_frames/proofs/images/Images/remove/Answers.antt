@@ -17,6 +17,7 @@ remove-requires g c =
       pseudo,
       record {
         laid = kept.1;
+        keyed = kept.2;
         live = c.requires.live (page_in pseudo image) there;
         within = c.requires.within (page_in pseudo image) there;
         formed = subst (λ (l : ImageList g.row.K.Denot). IsWellFormed (g.K.Keyer.pseudokey_of l.keyer) (taken_out c.args.spot.index (page_in pseudo image))) (sym c.self.view_is) (c.requires.formed (page_in pseudo image) there);
@@ -34,6 +35,7 @@ invariant_of-self g c =
     let there = subst (λ (l : ImageList g.row.K.Denot). slice_get l.pages number ≡ Some (page_in pseudo image)) c.self.view_is kept.0 in
     let can : CanLose pseudo c.args.spot.index image = record {
       laid = kept.1;
+      keyed = kept.2;
       live = c.requires.live (page_in pseudo image) there;
       within = c.requires.within (page_in pseudo image) there;
       formed = subst (λ (l : ImageList g.row.K.Denot). IsWellFormed (g.K.Keyer.pseudokey_of l.keyer) (taken_out c.args.spot.index (page_in pseudo image))) (sym c.self.view_is) (c.requires.formed (page_in pseudo image) there);
@@ -51,6 +53,7 @@ returns-clause-pages g c page there =
     let own = subst (λ (l : ImageList g.row.K.Denot). slice_get l.pages number ≡ Some (page_in pseudo image)) c.self.view_is kept.0 in
     let can : CanLose pseudo c.args.spot.index image = record {
       laid = kept.1;
+      keyed = kept.2;
       live = c.requires.live (page_in pseudo image) own;
       within = c.requires.within (page_in pseudo image) own;
       formed = subst (λ (l : ImageList g.row.K.Denot). IsWellFormed (g.K.Keyer.pseudokey_of l.keyer) (taken_out c.args.spot.index (page_in pseudo image))) (sym c.self.view_is) (c.requires.formed (page_in pseudo image) own);

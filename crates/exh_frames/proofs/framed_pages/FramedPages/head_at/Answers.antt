@@ -1,0 +1,11 @@
+use Rattle.std.proofs.Common.{◌≡◌, slice_get, Some, option_copied, sym, ap, ◌∙◌, subst}
+use Rattle.exh_frames.specs.FramedStore.{FramedStore}
+use Rattle.exh_frames.proofs.Followed.{kept_is}
+use Rattle.exh_frames.proofs.framed_pages.FramedPages.head_at.Goals as goal
+
+pub returns-in-Some : goal.returns-in-Some
+returns-in-Some g c =
+    let page = c.in-Some.page.now in
+    let here = sym c.get.ensures ∙ ap option_copied c.in-Some.is in
+    let there = kept_is c.self.inside.images.pages c.self.inside.decoded c.args.number page c.self.invariant here in
+    (page, subst (λ (s : FramedStore g.row.K.Denot). slice_get s.pages c.args.number ≡ Some page) c.self.view_is there, c.head.ensures)
