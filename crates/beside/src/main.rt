@@ -27,7 +27,6 @@ use std::time::Clock;
 mod joins;
 mod journals;
 mod plain_ward;
-mod routes;
 mod stores;
 
 /// A list of runs.
@@ -131,19 +130,16 @@ fn run_list<R: Threads + Wait + Clock + Print + Eprint + AllocGlobal + Sync>(
 enum Kind {
     /// Directories that no world has.
     Joins,
-    /// How far pages are from answers.
-    Routes,
     /// Journals, strays and refusals.
     Journals,
 }
 
-const KINDS: [Kind; 3] = [Kind::Joins, Kind::Routes, Kind::Journals];
+const KINDS: [Kind; 2] = [Kind::Joins, Kind::Journals];
 
 impl Named for Kind {
     fn name(self) -> &'static str {
         match self {
             Kind::Joins => "joins",
-            Kind::Routes => "routes",
             Kind::Journals => "journals",
         }
     }
@@ -153,7 +149,6 @@ impl RunKind for Kind {
     fn take_steps(self, run: &mut Run) -> Result<(), Difference> {
         match self {
             Kind::Joins => joins::run(run),
-            Kind::Routes => routes::run(run),
             Kind::Journals => journals::run(run),
         }
     }

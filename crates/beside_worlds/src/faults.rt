@@ -5,15 +5,15 @@ ghost use Rattle.std.specs.Prelude.{IfOk};
 ghost use Rattle.exh_keyer.specs.Pseudokey.{any_pseudokey};
 ghost use Rattle.exh_world.specs.Sound.{IsSoundWorld};
 
+use crate::alike::are_alike;
 use crate::answers::ROOM;
+use crate::played::CONFIG;
 use crate::steps::{STEP_COUNT, STEPS, Step};
-use exh_fixtures::{Difference, Part, Run, again, are_same, first_store, refused, same};
+use exh_fixtures::{Difference, Part, Run, again, first_store, same};
 use exh_frames::{FailingPages, PlainPages};
 use exh_keyer::AnyKeyer;
-use exh_page::{Config, Page};
-use exh_prefix::PageNo;
 use exh_script::{ResponseFault, Run as Script, push_response};
-use exh_ward::{Ward, WardFault};
+use exh_ward::Ward;
 use exh_world::World;
 use std::alloc::{AllocError, Global};
 
@@ -21,13 +21,6 @@ type FailingWard = Ward<FailingPages<PlainPages>, AnyKeyer>;
 
 // More accesses than the steps make.
 const MOST: u64 = 1000;
-
-const CONFIG: Config<AnyKeyer> = Config {
-    cap: 2,
-    ward_bits: 0,
-    copies: 2,
-    keyer: AnyKeyer::Plain,
-};
 
 /// Whether a step was refused, and came to what it should each time.
 #[derive(Clone, Copy)]
@@ -68,7 +61,6 @@ fn run_beside(alloc: Global, notes: &mut [Note]) -> Result<(), Difference> {
 // Takes the steps of files whose first access is refused, the second, and so on, up to one that has no access
 // of this number. Where memory is refused the file is to be made anew.
 fn run_each_access(alloc: Global, unhurt: &mut Left, notes: &mut [Note]) -> Result<(), Difference> {
-    ask_all(unhurt, notes)?;
     same(!unhurt.met, Part::Healed)?;
     for at in 1..MOST {
         if !again!(Err(Difference::Memory(_)) => run_failing(alloc, at, unhurt, notes))? {
@@ -86,11 +78,10 @@ fn run_failing(
     notes: &mut [Note],
 ) -> Result<bool, Difference> {
     let mut left = answer_all(alloc, at, notes)?;
-    end_failing(&mut left, unhurt, notes)
+    end_failing(&mut left, unhurt)
 }
 
-fn end_failing(left: &mut Left, unhurt: &mut Left, notes: &mut [Note]) -> Result<bool, Difference> {
-    ask_all(left, notes)?;
+fn end_failing(left: &mut Left, unhurt: &mut Left) -> Result<bool, Difference> {
     if left.met {
         for (ward, other) in left.wards.iter_mut().zip(unhurt.wards.iter_mut()) {
             are_alike(ward, other)?;
@@ -154,7 +145,6 @@ fn answer_step(
 {
     let (words, want) = match step {
         Step::Line(words, want) | Step::Far(words, want) => (words, want),
-        Step::Sum(..) | Step::Low(..) => return Ok(false),
     };
     let told = is_printed(text, script, words, want)?;
     if told.is_some() {
@@ -183,59 +173,4 @@ fn is_printed(
         Err(ResponseFault::Memory) => Err(AllocError),
         Err(ResponseFault::Page) => Ok(None),
     }
-}
-
-// Asks the ward that the lines left, once more where a page was out of reach.
-fn ask_all(left: &mut Left, notes: &mut [Note]) -> Result<(), Difference> {
-    for ward in left.wards.iter_mut() {
-        left.met |= ask_ward(ward, notes)?;
-    }
-    Ok(())
-}
-
-fn ask_ward(ward: &mut FailingWard, notes: &mut [Note]) -> Result<bool, AllocError> {
-    let mut met = false;
-    for (step, note) in STEPS.iter().zip(notes.iter_mut()) {
-        let mut told = ask(ward, step)?;
-        if told.is_none() {
-            note.is_refused = true;
-            met = true;
-            told = ask(ward, step)?;
-        }
-        note.is_right &= told == Some(true);
-    }
-    Ok(met)
-}
-
-// Whether a ward answers as a step says, or the step asks nothing of it; `None` where a page was out of reach.
-fn ask(ward: &mut FailingWard, step: &Step) -> Result<Option<bool>, AllocError> {
-    let answer = match step {
-        Step::Line(..) | Step::Far(..) => Ok(true),
-        Step::Sum(page, want) => ward.buddy_sum(*page).map(|sum| sum == *want),
-        Step::Low(page, want) => ward.page(*page).map(|page| page.low() == *want),
-    };
-    match answer {
-        Ok(is_right) => Ok(Some(is_right)),
-        Err(WardFault::Page) => Ok(None),
-        Err(WardFault::Memory) => Err(AllocError),
-        Err(_) => Ok(Some(false)),
-    }
-}
-
-// The readers of two wards show the same.
-fn are_alike(ward: &mut FailingWard, other: &mut FailingWard) -> Result<(), Difference> {
-    same(ward.page_count() == other.page_count(), Part::Healed)?;
-    for number in 0..other.page_count() {
-        let healed = page(ward, number).map_err(refused)?;
-        let unhurt = page(other, number).map_err(refused)?;
-        same(are_same(&healed, &unhurt), Part::Healed)?;
-    }
-    let is_told = ward.notices_after(0) == other.notices_after(0)
-        && ward.journal().iter().eq(other.journal().iter())
-        && ward.table().entries().eq(other.table().entries());
-    same(is_told, Part::Healed)
-}
-
-fn page(ward: &mut FailingWard, number: PageNo) -> Result<Page, WardFault> {
-    again!(Err(WardFault::Memory) => ward.page(number))
 }

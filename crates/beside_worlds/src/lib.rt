@@ -12,6 +12,7 @@ mod answers;
 mod failing_maker;
 mod faults;
 mod line_runs;
+mod listed_pages;
 mod lists;
 mod lives;
 mod page_turns;

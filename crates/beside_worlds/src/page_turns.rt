@@ -3,6 +3,7 @@
 //! without its event; one by one, the event is asked once more, and all is as without the refusal.
 
 use crate::failing_maker::FailingMaker;
+use crate::listed_pages::{ListedMaker, ListedPages};
 use crate::lists::{LISTS, List};
 use crate::played::{CONFIG, OUT_OF_REACH, Played, events_of, new_world, play, turns_of};
 use exh_fixtures::{Difference, Part, Run, again, same};
@@ -24,6 +25,11 @@ const CACHE_SIZES: [usize; 2] = [1, CACHE_SIZE_LIMIT];
 /// Plays each list over pages in memory.
 pub(crate) fn run(run: &mut Run) -> Result<(), Difference> {
     run_over::<PlainPages, PlainMaker>(run, PlainMaker)
+}
+
+/// Plays each list over a store that writes only what `Pages` has no body for.
+pub(crate) fn run_over_lists(run: &mut Run) -> Result<(), Difference> {
+    run_over::<ListedPages, ListedMaker>(run, ListedMaker)
 }
 
 /// Plays each list over pages that stand as images.

@@ -11,6 +11,8 @@ enum Kind {
     Turns,
     /// Events at once, with each page call refused.
     PageTurns,
+    /// The same over a store that writes only what `Pages` has no body for.
+    ListedTurns,
     /// The same over pages that stand as images.
     ImageTurns,
     /// A file that is written, with each write refused.
@@ -21,9 +23,10 @@ enum Kind {
     Stores,
 }
 
-const KINDS: [Kind; 6] = [
+const KINDS: [Kind; 7] = [
     Kind::Turns,
     Kind::PageTurns,
+    Kind::ListedTurns,
     Kind::ImageTurns,
     Kind::Writers,
     Kind::Readers,
@@ -36,6 +39,7 @@ impl Kind {
         match self {
             Kind::Turns => crate::turns::run(rt, run),
             Kind::PageTurns => crate::page_turns::run(run),
+            Kind::ListedTurns => crate::page_turns::run_over_lists(run),
             Kind::ImageTurns => crate::page_turns::run_over_images(run),
             Kind::Writers => crate::writers::run(run),
             Kind::Readers => crate::readers::run(run),
@@ -49,6 +53,7 @@ impl Named for Kind {
         match self {
             Kind::Turns => "turns",
             Kind::PageTurns => "page-turns",
+            Kind::ListedTurns => "listed-turns",
             Kind::ImageTurns => "image-turns",
             Kind::Writers => "writers",
             Kind::Readers => "readers",

@@ -1,8 +1,6 @@
 //! Steps of a file of one ward, of pages of two records and of keyer plain, with two copies: each with
 //! what it comes to.
 
-use exh_prefix::PageNo;
-
 /// A step, and what it comes to.
 #[derive(Clone, Copy)]
 pub(crate) enum Step {
@@ -10,11 +8,6 @@ pub(crate) enum Step {
     Line(&'static str, &'static str),
     /// One that reaches none.
     Far(&'static str, &'static str),
-    /// How many records a page of the ward and its right buddy have together, if that is live: asked when
-    /// all lines are answered.
-    Sum(PageNo, Option<u32>),
-    /// A page of the ward has this low bound: asked as a sum.
-    Low(PageNo, u64),
 }
 
 impl Step {
@@ -25,7 +18,7 @@ impl Step {
 }
 
 /// How many steps there are.
-pub(crate) const STEP_COUNT: usize = 59;
+pub(crate) const STEP_COUNT: usize = 51;
 
 /// Events and views of each kind, also refused ones: the three keys, a late table, a copy that restarts, a
 /// request that is on its way while its page is merged away and is live again; a page with the buddy split;
@@ -89,12 +82,4 @@ pub(crate) const STEPS: [Step; STEP_COUNT] = [
     ),
     Step::Line("page 0 3", "page 0/3 forward 0/2\n"),
     Step::Far("page 0 4", "refused 1\n"),
-    Step::Sum(0, None),
-    Step::Sum(1, Some(3)),
-    Step::Sum(2, None),
-    Step::Sum(3, None),
-    Step::Low(0, 0),
-    Step::Low(1, 0x8000_0000_0000_0000),
-    Step::Low(2, 0xc000_0000_0000_0000),
-    Step::Low(3, 0xe000_0000_0000_0000),
 ];

@@ -3,11 +3,13 @@
 #![tactic(auto)]
 
 pub use exh_codec::BLOCK_LEN;
+pub use page_at_hand::PageAtHand;
 pub use pages::Pages;
 pub use pages_fault::PagesFault;
 pub use plain_pages::PlainPages;
 pub use store_maker::{PlainMaker, StoreMaker};
 
+mod page_at_hand;
 mod pages;
 mod pages_fault;
 mod plain_pages;

@@ -11,11 +11,16 @@ ghost use Rattle.exh_codec.specs.PageImage.{IsHeld, content_of};
 ghost use Rattle.exh_stores.specs.PageStore.{IfPage, HasHead, CountsFaults, TakesTheSame};
 
 use crate::PagesFault;
+use crate::stored_page::StoredPage;
 use exh_codec::{BLOCK_LEN, Key, Lookup, Page, PageHead, PageNo, Prefix, Spot, Value};
 
 /// A store of pages, numbered from 0 on in the order in which they came. Each call
 /// that answers a `Result` may be refused: `PagesFault::Page` where a page couldn't be reached, which
 /// the store counts as a failure, else `PagesFault::Memory`. Its pages are then as before.
+///
+/// A store has `count`, `failures`, `get`, `set`, `set_two` and `grow_and_set`, by which the calls with a body are made, and
+/// lends pages by `fetched` and `find`: its own, or the one that `PageAtHand` keeps, which gives `fetch` and `reach` too.
+/// A call that is made so gets whole pages, which takes memory for them.
 pub trait Pages {
     /// The pages, by their numbers.
     ghost pages: { Self → List Page };
@@ -48,23 +53,31 @@ pub trait Pages {
         ensures failures { CountsFaults result (failures self.old) (failures self.new) }
         ensures takes { TakesTheSame takes self.old self.new };
 
-    /// All of the page of this number but its records. It takes no memory.
+    /// All of the page of this number but its records. A store whose own it is takes no memory for it.
     fn head(&mut self, number: PageNo) -> Result<PageHead, PagesFault>
         requires { number < length (pages self.old) }
         ensures head { IfOk result (HasHead (pages self.old) number) }
         ensures pages { pages self.new ≡ pages self.old }
         ensures failures { CountsFaults result (failures self.old) (failures self.new) }
-        ensures takes { TakesTheSame takes self.old self.new };
+        ensures takes { TakesTheSame takes self.old self.new }
+    {
+        Ok(self.get(number)?.head())
+    }
 
     /// Writes the block that the page of this number has in a page file of the version that is written,
-    /// with its digest, which isn't made again where the store has it. It takes no memory.
+    /// with its digest, which isn't made again where the store has it. A store whose own it is takes no memory for it.
     fn block(&mut self, number: PageNo, out: &mut [u8; BLOCK_LEN]) -> Result<(), PagesFault>
         requires there { number < length (pages self.old) }
         requires few { IfPage (pages self.old) number (λ page. length (records_of page) ≤ CAP_LIMIT) }
         ensures block { OnOk result (IfPage (pages self.old) number (λ page. (out.new ≡ sealed (content_of page)) × IsHeld page)) }
         ensures pages { pages self.new ≡ pages self.old }
         ensures failures { CountsFaults result (failures self.old) (failures self.new) }
-        ensures takes { TakesTheSame takes self.old self.new };
+        ensures takes { TakesTheSame takes self.old self.new }
+    {
+        let page = self.get(number)?;
+        StoredPage::new(page).block(out);
+        Ok(())
+    }
 
     /// Gets the page of this number at hand.
     fn fetch(&mut self, number: PageNo) -> Result<(), PagesFault>
@@ -111,7 +124,12 @@ pub trait Pages {
         ensures ok { OnOk result (IfPage (pages self.old) number (λ page. pages self.new ≡ slice_set (pages self.old) number (with_records (with_record (record { pseudokey = pseudokey; key = key.now; value = value.now }) (records_of page)) page))) }
         ensures err { OnErr result (pages self.new ≡ pages self.old) }
         ensures failures { CountsFaults result (failures self.old) (failures self.new) }
-        ensures takes { TakesTheSame takes self.old self.new };
+        ensures takes { TakesTheSame takes self.old self.new }
+    {
+        let mut page = self.get(number)?;
+        page.put_at(stood, pseudokey, key, value)?;
+        self.set(number, page)
+    }
 
     /// Takes the record of a spot out of a live page in place. The page without it is one that the
     /// store takes.
@@ -123,7 +141,12 @@ pub trait Pages {
         ensures ok { OnOk result (IfPage (pages self.old) number (λ page. pages self.new ≡ slice_set (pages self.old) number (with_records (remove (records_of page) spot.index) page))) }
         ensures err { OnErr result (pages self.new ≡ pages self.old) }
         ensures failures { CountsFaults result (failures self.old) (failures self.new) }
-        ensures takes { TakesTheSame takes self.old self.new };
+        ensures takes { TakesTheSame takes self.old self.new }
+    {
+        let mut page = self.get(number)?;
+        page.remove_at(spot);
+        self.set(number, page)
+    }
 
     /// Puts a page in place of the one of this number.
     fn set(&mut self, number: PageNo, page: Page) -> Result<(), PagesFault>
@@ -176,7 +199,12 @@ pub trait Pages {
         ensures ok { OnOk result (IfPage (pages self.old) number (λ page. pages self.new ≡ slice_set (slice_set (pages self.old) number (left_half right page)) right (right_half page))) }
         ensures err { OnErr result (pages self.new ≡ pages self.old) }
         ensures failures { CountsFaults result (failures self.old) (failures self.new) }
-        ensures takes { TakesTheSame takes self.old self.new };
+        ensures takes { TakesTheSame takes self.old self.new }
+    {
+        let page = self.get(number)?;
+        let (left, twin) = (page.left_half(right)?, page.right_half()?);
+        self.set_two(number, left, right, twin)
+    }
 
     /// Splits such a page into itself and a new one, the right half, whose number is the count so far. The
     /// greatest number of 32 bits is no page's.
@@ -189,7 +217,12 @@ pub trait Pages {
         ensures ok { OnOk result (IfPage (pages self.old) number (λ page. pages self.new ≡ slice_set (pages self.old) number (left_half (length (pages self.old)) page) ++ right_half page ∷ [])) }
         ensures err { OnErr result (pages self.new ≡ pages self.old) }
         ensures failures { CountsFaults result (failures self.old) (failures self.new) }
-        ensures takes { TakesTheSame takes self.old self.new };
+        ensures takes { TakesTheSame takes self.old self.new }
+    {
+        let page = self.get(number)?;
+        let (left, right) = (page.left_half(self.count())?, page.right_half()?);
+        self.grow_and_set(right, number, left)
+    }
 
     /// Merges two live pages, the halves of a parent: the left one, of this number, becomes the parent's
     /// page, with the records of both and the right link of its buddy, which sends callers on to it from
@@ -206,5 +239,12 @@ pub trait Pages {
         ensures ok { OnOk result (IfPage (pages self.old) number (λ page. IfPage (pages self.old) buddy (λ other. pages self.new ≡ slice_set (slice_set (pages self.old) number (union parent page other)) buddy (sent_to number other)))) }
         ensures err { OnErr result (pages self.new ≡ pages self.old) }
         ensures failures { CountsFaults result (failures self.old) (failures self.new) }
-        ensures takes { TakesTheSame takes self.old self.new };
+        ensures takes { TakesTheSame takes self.old self.new }
+    {
+        let page = self.get(number)?;
+        let other = self.get(buddy)?;
+        let union = page.union(parent, &other)?;
+        let sent = other.sent_to(number);
+        self.set_two(number, union, buddy, sent)
+    }
 }
