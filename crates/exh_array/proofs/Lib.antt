@@ -20,6 +20,8 @@ pub mod Updates
 pub mod Joined
 -- of tables that are kept by what they have beyond others
 pub mod Unpacked
+-- of places that are noted, and forgotten
+pub mod KnownPlaces
 -- of copies, by what is known of them
 pub mod HeldCopies
 pub mod KeptCopies

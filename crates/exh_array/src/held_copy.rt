@@ -1,12 +1,14 @@
 ghost use Rattle.std.specs.Prelude.{◌≡◌, ℕ, [], ◌∷◌, ◌++◌, List, length, slice_get, Some, IsTrue, ◌<◌, OnOk, OnErr};
+ghost use Rattle.std.specs.FinMap as map;
 ghost use Rattle.exh_table.specs.Table.{TableMap, table_with};
 ghost use Rattle.exh_table.specs.TableOrder.{IsTableUpTo, table_join};
 ghost use Rattle.exh_array.specs.Pointers.{HasArrayOf};
 ghost use Rattle.exh_array.specs.Sent.{IsBefore, unpacked};
+ghost use Rattle.exh_array.specs.KnownCopy.{IsNoted, Places};
 ghost use Rattle.exh_array.specs.Held.{IsHeld};
 
 use crate::Directory;
-use crate::known::note;
+use crate::known::forget;
 use crate::news::{is_empty, is_told};
 use crate::sent_tables::SentTables;
 use exh_join::Join;
@@ -75,16 +77,24 @@ impl HeldCopy {
         ensures directory { self.new.directory ≡ self.old.directory }
         ensures ok { (start : TableMap) → IsHeld start (unpacked start sent.old) self.old → OnOk result (unpacked start sent.new ≡ unpacked start sent.old ++ self.old.directory.table ∷ []) }
         ensures held { (start : TableMap) → IsHeld start (unpacked start sent.old) self.old → IsHeld start (unpacked start sent.new) self.new }
+        ensures noted { (self.old.news ≡ map.empty → ⊥) → OnOk result (IsNoted self.new.known (length sent.old)) }
         ensures err { OnErr result (self.new ≡ self.old) }
         ensures unsent { OnErr result (sent.new ≡ sent.old) }
     {
-        let place = sent.len();
-        let repeats = is_empty(&self.news);
-        sent.push(self.since, &mut self.news, self.directory.table())?;
-        if !repeats {
-            self.since = Some(place);
-            note(&mut self.known, place);
+        if is_empty(&self.news) {
+            sent.push(self.since, &mut self.news, self.directory.table())?;
+            return Ok(());
         }
+        // The refusals come before the table is sent.
+        let place = sent.len();
+        let is_new = self.known.insert(place)?;
+        if let Err(error) = sent.push(self.since, &mut self.news, self.directory.table()) {
+            if is_new {
+                self.known.remove(&place);
+            }
+            return Err(error);
+        }
+        self.since = Some(place);
         Ok(())
     }
 
@@ -96,23 +106,29 @@ impl HeldCopy {
         ensures array { (ward_bits : ℕ) → HasArrayOf ward_bits self.old.directory → HasArrayOf ward_bits self.new.directory }
         ensures held { (start table : TableMap) → IsHeld start (unpacked start sent.now) self.old → slice_get (unpacked start sent.now) place ≡ Some table → IsTableUpTo start table
             → IsHeld start (unpacked start sent.now) self.new }
+        ensures noted { OnOk result (IsNoted self.new.known place) }
         ensures err { OnErr result (self.new ≡ self.old) }
     {
         if self.known.contains(&place) {
             return Ok(());
         }
         let news = sent.beyond(place, &self.known, self.directory.table())?;
-        self.join(place, &news)?;
-        sent.note_known(place, &mut self.known);
+        // The refusals come before the table is joined.
+        let noted = sent.note_known(place, &mut self.known)?;
+        if let Err(error) = self.join(place, &news) {
+            forget(&mut self.known, noted);
+            return Err(error);
+        }
         Ok(())
     }
 
-    // Joins what the sent table under a place has beyond this copy's.
+    // Joins what the sent table under a place has beyond this copy's, whatever is noted as known.
     fn join(&mut self, place: usize, news: &Table) -> Result<(), AllocError>
         ensures ok { OnOk result (self.new.directory.table ≡ table_join self.old.directory.table news.now) }
         ensures array { (ward_bits : ℕ) → HasArrayOf ward_bits self.old.directory → HasArrayOf ward_bits self.new.directory }
-        ensures held { (start table : TableMap) (sent : List TableMap) → IsHeld start sent self.old → slice_get sent place ≡ Some table → IsTableUpTo start table
-            → table_join self.old.directory.table news.now ≡ table_join self.old.directory.table table → IsHeld start sent self.new }
+        ensures held { (start table : TableMap) (sent : List TableMap) (known : Places) → IsHeld start sent (record self.old { known = known }) → slice_get sent place ≡ Some table → IsTableUpTo start table
+            → table_join self.old.directory.table news.now ≡ table_join self.old.directory.table table → IsHeld start sent (record self.new { known = known }) }
+        ensures known { self.new.known ≡ self.old.known }
         ensures err { OnErr result (self.new ≡ self.old) }
     {
         if is_empty(news) {

@@ -3,9 +3,9 @@ ghost use Rattle.std.specs.FinMap as map;
 ghost use Rattle.exh_table.specs.Table.{TableMap};
 ghost use Rattle.exh_table.specs.TableOrder.{IsTableUpTo, table_join};
 ghost use Rattle.exh_array.specs.Sent.{IsBefore, base_in, unpacked};
-ghost use Rattle.exh_array.specs.KnownCopy.{AreKnown, IsSentUpTo};
+ghost use Rattle.exh_array.specs.KnownCopy.{AreKnown, IsNoted, IsSentUpTo, forgotten};
 
-use crate::known::note;
+use crate::known::{forget, note};
 use crate::news::{add_news, is_empty};
 use crate::sent_table::SentTable;
 use exh_table::Table;
@@ -116,17 +116,49 @@ impl SentTables {
         Ok(news)
     }
 
-    /// Notes that the table at a place, and those that it goes on from, tell nothing new, as far as there is memory.
-    pub(crate) fn note_known(&self, place: usize, known: &mut BTreeSet<usize>)
+    /// Notes that the table at a place, and those that it goes on from, tell nothing new; answers the places that were
+    /// newly noted, in order. Where memory is refused, an `AllocError`, nothing is noted.
+    pub(crate) fn note_known(
+        &self,
+        place: usize,
+        known: &mut BTreeSet<usize>,
+    ) -> Result<Vec<usize>, AllocError>
         requires { place < length self.now }
-        ensures { (start own : TableMap) → AreKnown (unpacked start self.now) known.old own → IsSentUpTo (unpacked start self.now) own place → AreKnown (unpacked start self.now) known.new own }
+        ensures known { (start own : TableMap) → AreKnown (unpacked start self.now) known.old own → IsSentUpTo (unpacked start self.now) own place → AreKnown (unpacked start self.now) known.new own }
+        ensures noted { OnOk result (IsNoted known.new place) }
+        ensures back { IfOk result (λ noted. forgotten noted.items known.new ≡ known.old) }
+        ensures err { OnErr result (known.new ≡ known.old) }
     {
-        let mut next = Some(place);
+        let mut noted = Vec::new(self.alloc);
+        if let Err(error) = self.note_back(place, known, &mut noted) {
+            forget(known, noted);
+            return Err(error);
+        }
+        Ok(noted)
+    }
+
+    // Notes the same, and puts the places that were newly noted behind others. On an `Err` some of them may be noted.
+    fn note_back(
+        &self,
+        place: usize,
+        known: &mut BTreeSet<usize>,
+        noted: &mut Vec<usize>,
+    ) -> Result<(), AllocError>
+        requires { place < length self.now }
+        ensures known { (start own : TableMap) → AreKnown (unpacked start self.now) known.old own → IsSentUpTo (unpacked start self.now) own place → AreKnown (unpacked start self.now) known.new own }
+        ensures noted { OnOk result (IsNoted known.new place) }
+        ensures back { forgotten noted.new.items known.new ≡ forgotten noted.old.items known.old }
+    {
+        if !note(known, noted, place)? {
+            return Ok(());
+        }
+        let mut next = self.tables[place].since;
         while let Some(at) = next {
-            if !note(known, at) {
-                return;
+            if !note(known, noted, at)? {
+                return Ok(());
             }
             next = self.tables[at].since;
         }
+        Ok(())
     }
 }

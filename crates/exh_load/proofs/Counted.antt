@@ -1,5 +1,5 @@
 -- Counts of failures that rise, and those that never fall.
-use Rattle.std.proofs.Common.{◌≡◌, ℕ, ◌<◌, ◌≤◌, List, length, slice_get, Option, None, Some, Result, Ok, Err, IfErr, inl, inr, refl, sym, ap, ◌∙◌, subst, arith}
+use Rattle.std.proofs.Common.{◌≡◌, ℕ, ◌<◌, ◌≤◌, List, slice_get, Option, None, Some, Result, Ok, Err, IfErr, inl, inr, refl, sym, ap, ◌∙◌, subst, arith}
 use Rattle.std.specs.Prelude.{slice_set, IsErr, IsErrAnd}
 use Rattle.exh_prefix.specs.PrefixListLemmas.{set_is}
 use Rattle.exh_keyer.specs.declared.any_keyer.AnyKeyer.{AnyKeyer}
@@ -13,22 +13,9 @@ use Rattle.exh_ward.specs.NewWards.{new_wards}
 use Rattle.exh_file.specs.Opened.{OpenedState, in_file}
 use Rattle.exh_load.specs.LoadFault.{BeginsFrom, FallsNowhere, HasCounted, HasCountedFrom, HasCountedIn, load_fault_of}
 use Rattle.exh_load.specs.declared.load_fault.LoadFault.{LoadFault}
-use Rattle.exh_load.specs.declared.load_fault.LoadFault.TheVariants.{Memory, Page}
+use Rattle.exh_load.specs.declared.load_fault.LoadFault.TheVariants.{Page}
 
 -- ---- of one call
-
-pub never_falls : {T : Type 0} (result : Result T WardFault) (old new : ℕ) → CountsFailures result old new → old ≤ new
-never_falls (Ok value) old new counts = omega (arith, counts)
-never_falls (Err NoPage) old new counts = omega (arith, counts)
-never_falls (Err NotLive) old new counts = omega (arith, counts)
-never_falls (Err NotFull) old new counts = omega (arith, counts)
-never_falls (Err AtLimit) old new counts = omega (arith, counts)
-never_falls (Err NoBuddy) old new counts = omega (arith, counts)
-never_falls (Err BuddySplit) old new counts = omega (arith, counts)
-never_falls (Err (TooMany sum)) old new counts = omega (arith, counts)
-never_falls (Err Worn) old new counts = omega (arith, counts)
-never_falls (Err NoMemory) old new counts = omega (arith, counts)
-never_falls (Err OutOfReach) old new counts = omega (arith, counts)
 
 pub page_counts : {T P : Type 0} (failures : P → ℕ) (result : Result T WardFault) (old new : ℕ) → CountsFailures result old new → (store : P) × (failures store ≡ new) → IfErr result (λ fault. fault ≡ OutOfReach → (old < new) × ((store : P) × (failures store ≡ new)))
 page_counts failures (Ok value) old new counts store = tt
@@ -95,5 +82,5 @@ pub fault_as : {T : Type 0} (own : WardFault) (Q : Type 0) (result : Result T Wa
 fault_as own Q (Ok value) so is = absurd is.1
 fault_as own Q (Err fault) so is = λ page. so (sym is.1 ∙ page)
 
-pub at_least : {old now new : ℕ} → now ≡ old → now ≤ new → old ≤ new
-at_least same more = omega (arith, same, more)
+pub at_least : {old new : ℕ} → new ≡ old → old ≤ new
+at_least same = omega (arith, same)

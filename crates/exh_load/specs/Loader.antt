@@ -5,10 +5,11 @@ use Rattle.exh_keyer.specs.declared.any_keyer.AnyKeyer.{AnyKeyer}
 use Rattle.exh_array.specs.Pointers.{DirectoryState}
 use Rattle.exh_page.specs.declared.file_settings.FileSettings.{FileSettings}
 use Rattle.exh_ward.specs.NewWards.{new_wards}
+use Rattle.exh_calls.specs.declared.call.Call.{Call}
 use Rattle.exh_calls.specs.declared.call.Call.TheVariants.{Put}
 use Rattle.exh_calls.specs.declared.reply.Reply.{Reply}
 use Rattle.exh_keyer.specs.Pseudokey.{any_pseudokey}
-use Rattle.exh_ward.specs.WardState.{WardState, IsUnchanged, history_begun}
+use Rattle.exh_ward.specs.WardState.{WardState, history_begun}
 use Rattle.exh_file.specs.Opened.{OpenedState, in_file}
 use Rattle.exh_file.specs.FileChange.{ward_in}
 use Rattle.exh_file.specs.WardChange.{AreSplitsAtMost, IsChanged}
@@ -41,26 +42,37 @@ pub record IsOutgrown {K : Type 0} (ward : WardState K) : Type 0 where
   pub pairs : map.len ward.base ≤ length ward.journal
   pub some : HISTORY_LEN ≤ length ward.journal
 
--- the history began anew, since the journal had outgrown the base; or goes on, and the count of page faults may be another
+-- the history began anew, since the journal had outgrown the base; or the ward is as it was
 abbrev pub MayHaveBegun : {K : Type 0} → WardState K → WardState K → Type 0
-MayHaveBegun old new = (IsOutgrown old × (new ≡ history_begun old)) ⊎ IsUnchanged old new
+MayHaveBegun old new = (IsOutgrown old × (new ≡ history_begun old)) ⊎ (new ≡ old)
 
--- the ward of the key answered the put, and then its history may have begun anew; the other wards and the settings are as before
+-- a ward answered a call, before which its history may have begun anew
+pub record IsAnsweredAnew {K : Type 0} (pseudokey_of : K → List ℕ → ℕ) (old : WardState K) (call : Call) (reply : Reply) (new : WardState K) : Type 0 where
+  pub begun : WardState K
+  pub history : MayHaveBegun old begun
+  pub changed : IsChanged pseudokey_of begun call reply new
+
+-- pages of a ward may have been split, before which its history may have begun anew, and its count of page faults may be another
+pub record AreSplitsAnew {K : Type 0} (old new : WardState K) : Type 0 where
+  pub begun : WardState K
+  pub history : MayHaveBegun old begun
+  pub splits : AreSplitsAtMost begun new
+
+-- the ward of the key answered the put, before which its history may have begun anew; the other wards and the settings are as before
 pub record IsPutIn (old : OpenedState) (key value : List ℕ) (reply : Reply) (new : OpenedState) : Type 0 where
   pub ward : WardState AnyKeyer
   pub after : WardState AnyKeyer
-  pub left : WardState AnyKeyer
   pub there : slice_get old.wards (ward_in old key) ≡ Some ward
-  pub changed : IsChanged any_pseudokey ward (Put key value) reply after
-  pub history : MayHaveBegun after left
-  pub others : new ≡ record old { wards = slice_set old.wards (ward_in old key) left }
+  pub answered : IsAnsweredAnew any_pseudokey ward (Put key value) reply after
+  pub others : new ≡ record old { wards = slice_set old.wards (ward_in old key) after }
 
--- pages of the ward of a key may have been split, and its count of page faults may be another; the other wards are as before
+-- pages of the ward of a key may have been split, before which its history may have begun anew, and its count of page faults may be another; the other wards are as
+-- before
 pub record HasSplitsIn (old : LoaderState) (key : List ℕ) (new : LoaderState) : Type 0 where
   pub ward : WardState AnyKeyer
   pub after : WardState AnyKeyer
   pub there : slice_get old.wards (ward_in (file_in old) key) ≡ Some ward
-  pub splits : AreSplitsAtMost ward after
+  pub splits : AreSplitsAnew ward after
   pub others : file_in new ≡ record (file_in old) { wards = slice_set old.wards (ward_in (file_in old) key) after }
 
 -- ---- of private functions

@@ -5,17 +5,16 @@ ghost use Rattle.exh_array.specs.Pointers.{DirectoryState};
 ghost use Rattle.exh_calls.specs.declared.call.Call.TheVariants.{Put};
 ghost use Rattle.exh_file.specs.FileChange.{ChangesOneMap};
 ghost use Rattle.exh_file.specs.Opened.{settings_in};
-ghost use Rattle.exh_ward.specs.WardFault.{IsStoreFault};
+ghost use Rattle.exh_ward.specs.WardFault.{CountsFailures, IsStoreFault};
 ghost use Rattle.exh_ward.specs.declared.ward_fault.WardFault.TheVariants.{Page as OutOfReach};
 ghost use Rattle.exh_keyer.specs.Pseudokey.{any_pseudokey};
 ghost use Rattle.exh_prefix.specs.Prefix.{Begins};
-ghost use Rattle.exh_file.specs.WardChange.{AreSplitsAtMost, IsChanged};
 ghost use Rattle.exh_ward.specs.WardState.{IsSoundWard, own_prefix};
 ghost use Rattle.exh_load.specs.Load.{empty_loading, new_count, record_count};
 ghost use Rattle.exh_load.specs.LoadFault.{FallsNowhere, HasCountedIn};
 ghost use Rattle.exh_load.specs.Put.{IsDirectoryOf};
 ghost use Rattle.exh_load.specs.Loading.{after_pair, loading_of, pair_reply};
-ghost use Rattle.exh_load.specs.Loader.{AreEach, HasSplitsIn, IsDirectoryAt, IsEmptyDirectory, IsEmptyLoader, IsLoading, IsPutIn, file_in};
+ghost use Rattle.exh_load.specs.Loader.{AreEach, AreSplitsAnew, HasSplitsIn, IsAnsweredAnew, IsDirectoryAt, IsEmptyDirectory, IsEmptyLoader, IsLoading, IsPutIn, file_in};
 
 use crate::history::renew_history;
 use crate::put_pair;
@@ -95,10 +94,10 @@ impl<P: Pages + Drop> Loader<P> {
     }
 
     /// Puts a pair into the ward of its key, and splits pages where they are full for it, as `put_pair`
-    /// does. The key is hashed once. The ward's history begins anew once its journal has outgrown its base,
-    /// unless that is refused, so that no journal grows with the text. `Memory` and `Page` may come at any point, `Page` where the
-    /// store of the key's ward has counted it: splits that were made stay made, and no more pairs can be put then,
-    /// since a directory may lack a notice.
+    /// does. The key is hashed once. Where the ward's journal has outgrown its base, its history begins anew first, so that
+    /// no journal grows with the text. `Memory` and `Page` may come at any point, `Page` where the store of the key's ward
+    /// has counted it: the history and splits that were made stay made, and no more pairs can be put then, since a
+    /// directory may lack a notice.
     pub fn put(&mut self, key: Key, value: Value) -> Result<Reply, WardFault>
         requires { IsLoading self.old }
         ensures put { IfOk result (λ reply. IsPutIn (file_in self.old) key value reply (file_in self.new)) }
@@ -117,7 +116,6 @@ impl<P: Pages + Drop> Loader<P> {
         let ward = &mut self.wards[at];
         let directory = &mut self.directories[at];
         let reply = put_counted(ward, directory, key, value, pseudokey)?;
-        renew_history(ward);
         Ok(reply)
     }
 
@@ -136,7 +134,7 @@ impl<P: Pages + Drop> Loader<P> {
     }
 }
 
-// Puts a pair into a ward as `put_pair` does. A page out of reach is one that the ward's store has counted.
+// Puts a pair into a ward as `put_anew` does. A page out of reach is one that the ward's store has counted.
 fn put_counted<P: Pages + Drop>(
     ward: &mut Ward<P, AnyKeyer>,
     directory: &mut Directory,
@@ -147,17 +145,39 @@ fn put_counted<P: Pages + Drop>(
     requires hashed { pseudokey ≡ any_pseudokey ward.old.keyer key }
     requires covered { Begins (own_prefix ward.old) pseudokey }
     requires told { IsDirectoryOf ward.old directory.old }
-    ensures put { IfOk result (λ reply. IsChanged any_pseudokey ward.old (Put key value) reply ward.new) }
+    ensures put { IfOk result (λ reply. IsAnsweredAnew any_pseudokey ward.old (Put key value) reply ward.new) }
     ensures told { OnOk result (IsDirectoryOf ward.new directory.new) }
-    ensures err { OnErr result (AreSplitsAtMost ward.old ward.new) }
+    ensures err { OnErr result (AreSplitsAnew ward.old ward.new) }
     ensures fault { IfErr result IsStoreFault }
     ensures sound { IsSoundWard any_pseudokey ward.new }
     ensures failures { OnOk result (ward.new.failures ≡ ward.old.failures) }
     ensures counted { IfErr result (λ fault. fault ≡ OutOfReach → (ward.old.failures < ward.new.failures) × ((store : P) × (P.failures store ≡ ward.new.failures))) }
 {
-    let put = put_pair(ward, directory, key, value, pseudokey);
+    let put = put_anew(ward, directory, key, value, pseudokey);
     ward.failures();
     put
+}
+
+// Puts a pair into a ward as `put_pair` does, once its history has begun anew where its journal has outgrown its base.
+fn put_anew<P: Pages + Drop>(
+    ward: &mut Ward<P, AnyKeyer>,
+    directory: &mut Directory,
+    key: Key,
+    value: Value,
+    pseudokey: u64,
+) -> Result<Reply, WardFault>
+    requires hashed { pseudokey ≡ any_pseudokey ward.old.keyer key }
+    requires covered { Begins (own_prefix ward.old) pseudokey }
+    requires told { IsDirectoryOf ward.old directory.old }
+    ensures put { IfOk result (λ reply. IsAnsweredAnew any_pseudokey ward.old (Put key value) reply ward.new) }
+    ensures told { OnOk result (IsDirectoryOf ward.new directory.new) }
+    ensures err { OnErr result (AreSplitsAnew ward.old ward.new) }
+    ensures fault { IfErr result IsStoreFault }
+    ensures sound { IsSoundWard any_pseudokey ward.new }
+    ensures failures { CountsFailures result ward.old.failures ward.new.failures }
+{
+    renew_history(ward)?;
+    put_pair(ward, directory, key, value, pseudokey)
 }
 
 // A directory of no entry for each ward.

@@ -1,21 +1,18 @@
-use Rattle.std.proofs.Common.{◌≡◌, ℕ, Bool, true, false, cond, List, Result, Ok, Err, OnOk, OnErr, refl, sym, ap, ◌∙◌, subst, nat_cmp}
-use Rattle.std.specs.BTreeMap.{is_at}
-use Rattle.std.specs.BTreeSet.{BTreeSet, IsUnchanged, Updates, contains}
-use Rattle.std.specs.FinMap.{nat_cmp-IsAntisymmetric}
-use Rattle.std.specs.List.{list_any}
-use Rattle.exh_prefix.specs.PrefixListLemmas.{is_equal}
-use Rattle.exh_table.specs.Table.{TableMap}
-use Rattle.exh_array.specs.KnownCopy.{AreKnown, IsSentUpTo}
+use Rattle.std.proofs.Common.{◌∷◌, ◌++◌, [], ap, ◌∙◌}
+use Rattle.exh_array.proofs.KnownPlaces.{forgotten_noted, known_more, known_same}
 use Rattle.exh_array.proofs.known.note.Goals as goal
 
-module _ (sent : List TableMap) (own : TableMap) (old new : BTreeSet ℕ) (place : ℕ) (known : AreKnown sent old own) (up : IsSentUpTo sent own place) where
-  noted_at : (at : ℕ) (here : Bool) → is_at (nat_cmp place) at ≡ here → contains nat_cmp new at ≡ cond here true (contains nat_cmp old at) → contains nat_cmp new at ≡ true → IsSentUpTo sent own at
-  noted_at at true tie is found = subst (IsSentUpTo sent own) (nat_cmp-IsAntisymmetric place at (is_equal (nat_cmp place at) tie)) up
-  noted_at at false tie is found = known at (sym is ∙ found)
+pub returns-in_err-is_new-clause-known : goal.returns-in_err-is_new-clause-known
+returns-in_err-is_new-clause-known c sent own known up = known_same sent own c.args.known.now c.insert.new.self c.in_err-is_new.ensures.err known
 
-  noted : {E : Type 0} (result : Result Bool E) → OnOk result (Updates nat_cmp old new place true) → OnErr result (IsUnchanged old new) → AreKnown sent new own
-  noted (Ok added) updates same at found = noted_at at (is_at (nat_cmp place) at) refl (updates.0 at) found
-  noted (Err refused) updates same at found = known at (sym (ap (list_any (is_at (nat_cmp at))) same) ∙ found)
+pub returns-then-is_new-clause-known : goal.returns-then-is_new-clause-known
+returns-then-is_new-clause-known c sent own known up = known_more sent own c.args.known.now c.insert.new.self c.args.place known up c.in_ok-is_new.ensures.updates.0
 
-pub returns : goal.returns
-returns c sent own known up = noted sent own c.args.known.now c.insert.new.self c.args.place known up c.insert.result c.insert.ensures.updates c.insert.ensures.err
+pub returns-then-is_new-clause-back : goal.returns-then-is_new-clause-back
+returns-then-is_new-clause-back c =
+    forgotten_noted c.args.noted.now.items c.push_reserved.new.self.items c.args.known.now c.insert.new.self c.args.place c.in_ok-is_new.is_new
+    (c.push_reserved.ensures.items ∙ ap (λ noted. noted ++ c.args.place ∷ []) c.reserve.ensures.items)
+    c.in_ok-is_new.ensures.keys c.in_ok-is_new.ensures.added c.if-is_new.true
+
+pub returns-else-is_new-clause-known : goal.returns-else-is_new-clause-known
+returns-else-is_new-clause-known c sent own known up = known_more sent own c.args.known.now c.insert.new.self c.args.place known up c.in_ok-is_new.ensures.updates.0

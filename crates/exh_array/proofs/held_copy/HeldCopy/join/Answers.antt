@@ -13,19 +13,19 @@ returns-then-is_empty-clause-ok c =
     sym (ap (table_join c.args.self.now.directory.table) (c.is_empty.ensures c.if-is_empty.true) ∙ joined_none c.args.self.now.directory.table)
 
 pub returns-in_err-join_in-clause-held : goal.returns-in_err-join_in-clause-held
-returns-in_err-join_in-clause-held c start table sent held there begun same =
-    subst (λ (directory : DirectoryState). IsHeld start sent (record c.args.self.now { directory = directory })) (sym c.in_err-join_in.ensures.err) held
+returns-in_err-join_in-clause-held c start table sent known held there begun same =
+    subst (λ (directory : DirectoryState). IsHeld start sent (record c.args.self.now { directory = directory; known = known })) (sym c.in_err-join_in.ensures.err) held
 
 pub returns-then-is_none-clause-held : goal.returns-then-is_none-clause-held
-returns-then-is_none-clause-held c start table sent held there begun same =
-    joined_begun start sent c.args.self.now held c.join_in.new.self c.args.place table (none_there c.args.self.now.since c.is_none.result c.is_none.ensures c.if-is_none.true) there begun (slice_get_within sent c.args.place table there)
+returns-then-is_none-clause-held c start table sent known held there begun same =
+    joined_begun start sent (record c.args.self.now { known = known }) held c.join_in.new.self c.args.place table (none_there c.args.self.now.since c.is_none.result c.is_none.ensures c.if-is_none.true) there begun (slice_get_within sent c.args.place table there)
     (c.in_ok-join_in.ensures.ok ∙ same)
 
 pub returns-in_err-join_in-3-clause-held : goal.returns-in_err-join_in-3-clause-held
-returns-in_err-join_in-3-clause-held c start table sent held there begun same =
-    subst (λ (directory : DirectoryState). IsHeld start sent (record c.args.self.now { directory = directory })) (sym c.in_err-join_in-3.ensures.err) held
+returns-in_err-join_in-3-clause-held c start table sent known held there begun same =
+    subst (λ (directory : DirectoryState). IsHeld start sent (record c.args.self.now { directory = directory; known = known })) (sym c.in_err-join_in-3.ensures.err) held
 
 pub returns-clause-held : goal.returns-clause-held
-returns-clause-held c start table sent held there begun same =
-    joined_on start sent c.args.self.now held c.join_in-3.new.self c.args.news.now c.join_in-2.new.self c.in_ok-join_in-3.ensures.ok
+returns-clause-held c start table sent known held there begun same =
+    joined_on start sent (record c.args.self.now { known = known }) held c.join_in-3.new.self c.args.news.now c.join_in-2.new.self c.in_ok-join_in-3.ensures.ok
     (c.in_ok-join_in-2.ensures.ok ∙ ap (λ (news : TableMap). table_join news c.args.news.now) c.in_ok-joined.ensures)
