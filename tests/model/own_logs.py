@@ -1,12 +1,15 @@
 """Traps of logs with several commits, as programs before this one left them, and of damaged headers: whose a log is its headers
 tell."""
 
+import os
+
 from .cut_off import LOG
 from .foreign_logs import goes_on
 from .in_place import MORE, PAIRS, PLACE, calling, files_in, key_of
 from .page_file import BLOCK
 from .page_log import changed_blocks, log_of, shut
-from .trap_rooms import Wrong, room_with
+from .rooms import USERS
+from .trap_rooms import Wrong, room_with, shared_room
 
 # What the refusal of another file's log says, behind the path.
 OTHERS = "isn't this file's: move it away, keep it, and try check"
@@ -121,6 +124,41 @@ def damaged_header_amid_copying(program, _, alone):
             is_read_amid_copying(program, {PLACE: damaged, LOG: log}, pairs[count])
 
 
+def is_salvaged(room, pairs, said, status=0):
+    """A salvage reads file and log, leaves both as they are, and has these pairs."""
+    room.is_let_be(["salvage", PLACE], said, status=status, text=None)
+    text = room.run(["salvage", PLACE]).stdout
+    room.wants(["import", "copy.exh", "--create"], 0, None, given=text)
+    room.has(pairs, "copy.exh")
+    room.at("copy.exh").unlink()
+
+
+def salvaged_with_its_log(program, _, alone):
+    """A file with its log is salvaged as the two stand together; where the log can't be read with it, alone."""
+    files, pairs = states_of(program, alone)
+    for count in (1, *COMMITS):
+        log = log_from(files[: count + 1])
+        for header in files[: count + 1]:
+            with room_with(program, {PLACE: header[:BLOCK] + files[0][BLOCK:], LOG: log}) as room:
+                is_salvaged(room, pairs[count], f"a log stands beside it, {room.at(LOG).resolve()}, and is read with it")
+    with room_with(program, {PLACE: put_into(program, files[1], *OTHER), LOG: log_from(files[:3])}) as room:
+        is_salvaged(room, {**pairs[1], OTHER[0]: OTHER[1]}, "and is not read: ")
+
+
+def damaged_header_of_who_may_only_read(program, _, alone):
+    """Who may not write to the log is told too that the header is damaged, by each reader."""
+    files, _ = states_of(program, alone)
+    other = put_into(program, alone[PLACE], *OTHER)
+    turned = other[: STAMP - 1] + bytes([other[STAMP - 1] ^ 1]) + other[STAMP:BLOCK]
+    with shared_room(program, {PLACE: turned + other[BLOCK:], LOG: log_from(files[:2])}, USERS[0]) as room:
+        for name in (PLACE, LOG):
+            os.chmod(room.at(name), 0o644)
+        value = CHANGES[0][1].encode().hex().encode() + b"\n"
+        room.is_let_be(calling("get", CHANGES[0][0]), DAMAGED, status=0, text=value, user=USERS[1])
+        for words in (["export", PLACE], ["stats", PLACE], ["check", PLACE], ["dump", PLACE], ["pairs", PLACE]):
+            room.is_let_be(words, DAMAGED, status=0, text=None, user=USERS[1])
+
+
 def log_of_another_beside_a_damaged_header(program, _, alone):
     """A header that is damaged, and has none of these stamps, or one of two: readers answer from file and log, say so, and
     leave both; what changes the file copies the log."""
@@ -140,7 +178,7 @@ def log_of_another_beside_a_damaged_header(program, _, alone):
             room.has(both, "copy.exh")
             room.at("copy.exh").unlink()
             room.is_let_be(["convert", PLACE, "new.exh"], "block 0 is damaged", text=None)
-            room.is_let_be(["salvage", PLACE], "a log stands beside it", status=5, text=None)
+            is_salvaged(room, both, f"blocks from {len(other) // BLOCK} on are those that the log changes", status=5)
             if files_in(room.folder) != before:
                 raise Wrong("a reader changed something")
             room.wants(["put", PLACE, MORE, "1"], 0, b"new\n")
@@ -154,5 +192,7 @@ TRAPS = (
     commits_with_a_gap,
     log_of_more_blocks,
     damaged_header_amid_copying,
+    salvaged_with_its_log,
+    damaged_header_of_who_may_only_read,
     log_of_another_beside_a_damaged_header,
 )

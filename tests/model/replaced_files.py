@@ -179,31 +179,39 @@ def put_killed_amid_a_save(program, _, alone):
                     room.has({"a": "b"})
 
 
+def is_compacted_under(program, library, alone, words, made, nth):
+    """A run goes on while `compact` replaces the file that it has opened: behind its first try of the lock, or amid the one of
+    this number."""
+    with room_with(program, alone) as room:
+        room.wants(["compact", PLACE, "--cap", "4"], 0)
+        given = FIRST_LINE.replace(b"cap=2", b"cap=4") if words[0] == "serve" else b""
+        compact = Waiting(library, room, ["compact", PLACE, "--cap", "4"], "rename", 1)
+        if not compact.comes_to("waits"):
+            raise Wrong("compact: it renames nothing")
+        reader = Waiting(library, room, words, "flock", nth, given)
+        # The reader has opened the file that is to be replaced, and asks for its lock; or it reads beside it.
+        reader.comes_to("waits" if nth else "flock")
+        compact.go()
+        if compact.ends()[0]:
+            raise Wrong("compact: it isn't done")
+        reader.go()
+        status, text, error = reader.ends()
+        if status or error:
+            raise Wrong(f"{' '.join(words)}: status {status}: {text[:80]} {error[:200]}")
+        if words[0] == "pairs" and len(pairs_in(text)) != len(PAIRS):
+            raise Wrong(f"pairs: {text[:200]}")
+        room.has(PAIRS, made or PLACE)
+        if made and words[0] == "backup" and Path(room.at(made)).read_bytes() != room.at(PLACE).read_bytes():
+            raise Wrong("backup: it isn't the file that is there")
+
+
 def compacted_under_a_run_that_waits(program, _, alone):
     """Runs that wait for the lock of a file while `compact` replaces it go on with the new one."""
     with tempfile.TemporaryDirectory() as tools:
         library = built(tools, "refuse_call")
         for words, made in WAITING:
-            with room_with(program, alone) as room:
-                room.wants(["compact", PLACE, "--cap", "4"], 0)
-                given = FIRST_LINE.replace(b"cap=2", b"cap=4") if words[0] == "serve" else b""
-                compact = Waiting(library, room, ["compact", PLACE, "--cap", "4"], "rename", 1)
-                if not compact.comes_to("waits"):
-                    raise Wrong("compact: it renames nothing")
-                reader = Waiting(library, room, words, "flock", 0, given)
-                # The reader has opened the file that is to be replaced, and asks for its lock; or it reads beside it.
-                reader.comes_to("flock")
-                compact.go()
-                if compact.ends()[0]:
-                    raise Wrong("compact: it isn't done")
-                status, text, error = reader.ends()
-                if status or error:
-                    raise Wrong(f"{' '.join(words)}: status {status}: {text[:80]} {error[:200]}")
-                if words[0] == "pairs" and len(pairs_in(text)) != len(PAIRS):
-                    raise Wrong(f"pairs: {text[:200]}")
-                room.has(PAIRS, made or PLACE)
-                if made and words[0] == "backup" and Path(room.at(made)).read_bytes() != room.at(PLACE).read_bytes():
-                    raise Wrong("backup: it isn't the file that is there")
+            for nth in (0, 2):
+                is_compacted_under(program, library, alone, words, made, nth)
 
 
 TRAPS = (

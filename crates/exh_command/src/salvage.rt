@@ -22,9 +22,10 @@ file ends amid it. A key of two pages is printed twice, and `exhash import`
 keeps the value that comes last. Standard error names each such key, with both
 blocks and the one whose value is last, and tells how many blocks were read, how
 many of them are live pages, and which are lost.
-It takes no lock, and changes neither the file nor its log. A log beside the
-file, its name with -wal behind it, is named and not read: where it is whole,
-`exhash check` first copies it into the file.
+It changes neither the file nor its log. A log beside the file, its name with
+-wal behind it, is named, and read with the file where the two fit together and
+no writer is at work. Beside a damaged header it may be another file's: then the
+file's own blocks come first, and behind them those that the log changes.
 
 Exit status:
   0  all blocks were read, and none is lost

@@ -1,13 +1,14 @@
 //! A page file and its log, put together in memory where they can't be on the disk.
-ghost use Rattle.std.specs.Prelude.{◌≡◌, ◌&&◌, IsTrue, IfOk};
+ghost use Rattle.std.specs.Prelude.{◌≡◌, ◌&&◌, ◌↔◌, IsTrue, IfOk};
+ghost use Rattle.exh_paged.specs.OwnLog.{MayBeCopied};
 ghost use Rattle.sqlite_disk.specs.Disk.{Only};
 ghost use Rattle.sqlite_disk.specs.Memory.{memory_bytes, memory_is_usable};
 ghost use Rattle.exh_in_place.specs.InMemory.{IsOfExpected, StandsAlone};
 
 use crate::Refused;
 use crate::system_files::options;
-use exh_paged::{Expected, SeenFiles, recover_files, see_log};
-use exh_system::{InPlaceFault, PageLog, is_at, open_regular};
+use exh_paged::{Expected, SeenFiles, may_be_copied, recover_files, see_log};
+use exh_system::{InPlaceFault, PageLog, is_at, open_regular, tell_damaged_header};
 use sqlite_disk::{Disk, Files, Memory};
 use sqlite_pager::Options;
 use std::alloc::Global;
@@ -20,6 +21,8 @@ use std::{fs, io};
 #[derive(Drop)]
 pub struct InMemory {
     db: Memory,
+    /// Whether the file's header is damaged, and none into which the log was being copied: the log may be another file's.
+    pub is_damaged: bool,
 }
 
 impl InMemory {
@@ -46,7 +49,8 @@ impl Refused {
 }
 
 /// The open file of a path, from which writers are kept, with what the log beside it has; `None` where no log is there that
-/// may have a change, or the path leads elsewhere by now. It takes memory for three times the file and its log.
+/// may have a change, or the path leads elsewhere by now. Where the file's header is damaged, and none into which the log was
+/// being copied, standard error says so. It takes memory for three times the file and its log.
 ///
 /// `Unfit` with `LogDenied`: the log may not be read; with `NoLog`, `LogNames`: as they say. Others: as of `recover_at`.
 pub(crate) fn in_memory(
@@ -64,8 +68,12 @@ pub(crate) fn in_memory(
         log: loaded(rt.alloc(), &log)?,
         db: loaded(rt.alloc(), file)?,
     };
-    let db = put_together(rt.alloc(), files, options(rt)?, Expected::Own)?;
-    Ok(Some(InMemory { db }))
+    let (db, may_copy) = put_together(rt.alloc(), files, options(rt)?, Expected::Own)?;
+    let is_damaged = !may_copy;
+    if is_damaged {
+        tell_damaged_header(rt, path);
+    }
+    Ok(Some(InMemory { db, is_damaged }))
 }
 
 // The log of a path, opened to be read. No link is followed.
@@ -103,7 +111,8 @@ fn bytes_of(alloc: Global, file: &File) -> io::Result<Vec<u8>> {
     Ok(bytes)
 }
 
-/// Puts a page file and its log together that are in memory: what both stood for the file has alone.
+/// Puts a page file and its log together that are in memory: what both stood for the file has alone. With it comes whether a
+/// reader may copy the log into the file.
 ///
 /// Errors: as of `recover_at`.
 pub(crate) fn put_together(
@@ -111,14 +120,15 @@ pub(crate) fn put_together(
     files: Files<Memory>,
     options: Options,
     expected: Expected,
-) -> Result<Memory, Refused>
+) -> Result<(Memory, bool), Refused>
     requires log { IsTrue (memory_is_usable files.log) }
     requires db { IsTrue (memory_is_usable files.db) }
-    ensures alone { IfOk result (λ db. StandsAlone (memory_bytes files.log) (memory_bytes files.db) (memory_bytes db)) }
+    ensures alone { IfOk result (λ it. StandsAlone (memory_bytes files.log) (memory_bytes files.db) (memory_bytes it.0)) }
+    ensures may { IfOk result (λ it. IsTrue it.1 ↔ MayBeCopied (record { log = memory_bytes files.log; db = memory_bytes files.db })) }
     ensures expected { IfOk result (λ _. IsOfExpected expected (memory_bytes files.log) (memory_bytes files.db)) }
 {
-    let together = recovered(alloc, files, options, expected)?;
-    Ok(together.db)
+    let (together, may_copy) = recovered(alloc, files, options, expected)?;
+    Ok((together.db, may_copy))
 }
 
 // The same of any disk, and the log that the file doesn't need any more.
@@ -127,16 +137,18 @@ fn recovered<D: Disk + Drop>(
     files: Files<D>,
     options: Options,
     expected: Expected,
-) -> Result<Files<D>, Refused>
+) -> Result<(Files<D>, bool), Refused>
     requires log { IsTrue (D.Disk.is_usable files.log) }
     requires db { IsTrue (D.Disk.is_usable files.db) }
-    ensures alone { IfOk result (λ it. IsTrue (D.Disk.is_clean it.log && D.Disk.is_clean it.db) → StandsAlone (D.Disk.seen files.log) (D.Disk.seen files.db) (D.Disk.seen it.db)) }
-    ensures expected { IfOk result (λ it. IsTrue (D.Disk.is_clean it.log && D.Disk.is_clean it.db) → IsOfExpected expected (D.Disk.seen files.log) (D.Disk.seen files.db)) }
+    ensures alone { IfOk result (λ it. IsTrue (D.Disk.is_clean it.0.log && D.Disk.is_clean it.0.db) → StandsAlone (D.Disk.seen files.log) (D.Disk.seen files.db) (D.Disk.seen it.0.db)) }
+    ensures may { IfOk result (λ it. IsTrue (D.Disk.is_clean it.0.log && D.Disk.is_clean it.0.db) → (IsTrue it.1 ↔ MayBeCopied (record { log = D.Disk.seen files.log; db = D.Disk.seen files.db }))) }
+    ensures expected { IfOk result (λ it. IsTrue (D.Disk.is_clean it.0.log && D.Disk.is_clean it.0.db) → IsOfExpected expected (D.Disk.seen files.log) (D.Disk.seen files.db)) }
 {
-    let files = settled(alloc, files)?;
+    let mut files = settled(alloc, files)?;
+    let may_copy = may_be_copied(alloc, &mut files)?;
     let (recovered, files) = recover_files(alloc, files, options, expected);
     match recovered {
-        Ok(()) => Ok(files),
+        Ok(()) => Ok((files, may_copy)),
         Err(fault) => Err(Refused::from(fault)),
     }
 }

@@ -22,7 +22,7 @@ pub use one_state::{Reading, read_one_state};
 pub use recovery::recover_at;
 pub use refused::Refused;
 pub use saving::{answer_in_place, save_in_place};
-pub use standing::{Standing, stand_still};
+pub use standing::{Standing, read_with_log, stand_still};
 pub use stillness::hold_still;
 
 mod bytes_blocks;

@@ -4,7 +4,7 @@ use crate::in_memory::in_memory;
 use crate::recovery::recover_to_read;
 use crate::stillness::{Stillness, held_still};
 use crate::{InMemory, Refused};
-use exh_system::{InPlaceFault, share_soon, tell_damaged_header};
+use exh_system::{InPlaceFault, share_soon};
 use std::fs::File;
 
 // How often a log is looked for anew that others may copy meanwhile.
@@ -38,7 +38,7 @@ pub fn stand_still(
         let found = match held_still(rt, path, file, seconds) {
             Ok(Stillness::Whole) => return Ok(Standing::Whole),
             Ok(Stillness::Replaced) => return Ok(Standing::Replaced),
-            Ok(Stillness::Damaged) => damaged_in_memory(rt, path, file)?,
+            Ok(Stillness::Damaged) => in_memory(rt, path, file)?,
             Err(refused) if !refused.is_of_copying() => return Err(refused),
             Err(_) => {
                 share_soon(rt, file, seconds)?;
@@ -53,6 +53,21 @@ pub fn stand_still(
     Err(Refused::Unfit(InPlaceFault::Restless))
 }
 
+/// The open file of a path with what the log beside it has, put together in memory; neither is changed. `None` where no log is
+/// there that may have a change.
+///
+/// `Busy`: a writer has the lock. Others: as of `stand_still`.
+pub fn read_with_log(
+    rt: &HostRuntime,
+    path: &str,
+    file: &File,
+) -> Result<Option<InMemory>, Refused> {
+    share_soon(rt, file, 0)?;
+    let found = in_memory(rt, path, file);
+    let _ = file.unlock();
+    found
+}
+
 /// Recovers the open file of a path, where nobody has its writers' lock, and lets it go. Where what the log has can't be copied
 /// into it, or its header is damaged, the answer is the two together.
 ///
@@ -65,29 +80,14 @@ pub(crate) fn recover_left(
     if file.try_lock().is_err() {
         return Ok(None);
     }
-    let is_damaged = match recover_to_read(rt, path, &file) {
+    match recover_to_read(rt, path, &file) {
         Ok(true) => return Ok(None),
-        Ok(false) => true,
-        Err(refused) if refused.is_of_copying() => false,
-        Err(refused) => return Err(refused),
-    };
+        Err(refused) if !refused.is_of_copying() => return Err(refused),
+        _ => {}
+    }
     // Others may read meanwhile.
     match file.try_lock_shared() {
-        Ok(()) if is_damaged => damaged_in_memory(rt, path, &file),
         Ok(()) => in_memory(rt, path, &file),
         Err(_) => Ok(None),
     }
-}
-
-// The open file of a path, whose header is damaged, with its log. Standard error says so.
-fn damaged_in_memory(
-    rt: &HostRuntime,
-    path: &str,
-    file: &File,
-) -> Result<Option<InMemory>, Refused> {
-    let found = in_memory(rt, path, file)?;
-    if found.is_some() {
-        tell_damaged_header(rt, path);
-    }
-    Ok(found)
 }

@@ -11,8 +11,8 @@ pub use exh_in_place::{
     above_limit, answer_in_place, answer_over, change_at, change_file, draw_stamp, file_size_limit,
     find_any, front_of, hold_still, is_at, is_name_beside, legal_bytes_are_files,
     legal_files_are_whole, lock_soon, look_at, open, open_above, open_form, open_regular,
-    pause_after, put_at, read_one_state, recover_at, save_at, save_files, save_in_place, see_log,
-    see_room_for_copy, share_soon, stand_still, tell_reason, with_reason,
+    pause_after, put_at, read_one_state, read_with_log, recover_at, save_at, save_files,
+    save_in_place, see_log, see_room_for_copy, share_soon, stand_still, tell_reason, with_reason,
 };
 pub use exh_ward::new_wards;
 pub use fault::BackupFault;

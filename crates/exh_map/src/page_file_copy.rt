@@ -112,7 +112,11 @@ enum Content {
 fn held_still(rt: &HostRuntime, path: &str, seconds: u64) -> Result<Source, StoreError>
     ensures { IfErr result IsOfSource }
 {
-    let (file, seconds) = opened_there(rt, path, seconds)?;
+    let (file, is_held) = opened_there(rt, path, seconds)?;
+    if !is_held {
+        let content = Content::Changing;
+        return Ok(Source { file, content });
+    }
     let content = match stand_still(rt, path, &file, seconds) {
         Ok(Standing::Whole) => Content::Still,
         Ok(Standing::Replaced) => {
@@ -120,7 +124,7 @@ fn held_still(rt: &HostRuntime, path: &str, seconds: u64) -> Result<Source, Stor
             Content::Still
         }
         Ok(Standing::InMemory(found)) => Content::InMemory(found),
-        Err(Refused::Unfit(InPlaceFault::Busy)) => Content::Changing,
+        Err(Refused::Unfit(InPlaceFault::Busy | InPlaceFault::Restless)) => Content::Changing,
         Err(refused) => return Err(StoreError::from(refused)),
     };
     Ok(Source { file, content })

@@ -70,7 +70,8 @@ fn turns_within(seconds: u64) -> u64 {
     seconds.saturating_mul(PAUSES).saturating_add(1)
 }
 
-// What a reading finds in the file of a path while writers are kept from it. `None`: one had its lock for so many seconds.
+// What a reading finds in the file of a path while writers are kept from it. `None`: one had its lock for so many seconds, or
+// it was changed all the while.
 fn read_held<R: Reading>(
     rt: &HostRuntime,
     path: &str,
@@ -80,11 +81,14 @@ fn read_held<R: Reading>(
     ensures found { IfOk result (λ found. IfSome found R.gives) }
     ensures err { IfErr result IsOfOpening }
 {
-    let (file, seconds) = opened_there(rt, path, seconds)?;
+    let (file, is_held) = opened_there(rt, path, seconds)?;
+    if !is_held {
+        return Ok(None);
+    }
     match stand_still(rt, path, &file, seconds) {
         Ok(Standing::InMemory(found)) => Ok(Some(reading.read_bytes(found.bytes()))),
         Ok(Standing::Whole | Standing::Replaced) => Ok(Some(reading.read(&file))),
-        Err(Refused::Unfit(InPlaceFault::Busy)) => Ok(None),
+        Err(Refused::Unfit(InPlaceFault::Busy | InPlaceFault::Restless)) => Ok(None),
         Err(refused) => Err(StoreError::from(refused)),
     }
 }

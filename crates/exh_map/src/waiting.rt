@@ -28,23 +28,23 @@ pub fn is_replaced(
     Ok(!is_at(rt, file, whole.as_str())?)
 }
 
-/// Opens the file of a path, and takes that lock; where another file came to the path meanwhile, that one. With it comes how
-/// many of the seconds may be waited for its writers still: none where one had the lock all the while.
+/// Opens the file of a path, and takes that lock; where another file came to the path meanwhile, that one. With it comes
+/// whether it has the lock, or needs none: a writer may have had it for all these seconds.
 ///
 /// `Absent`: nothing is there, or an empty file. `Changed`: other files come to the path. Others: it isn't opened, as they say.
 pub(crate) fn opened_there(
     rt: &HostRuntime,
     path: &str,
     seconds: u64,
-) -> Result<(File, u64), StoreError>
+) -> Result<(File, bool), StoreError>
     ensures { IfErr result IsOfOpening }
 {
     for _ in 0..TRIES {
         let file = opened_at(rt, path)?;
         match is_replaced(rt, path, &file, seconds) {
-            Ok(false) => return Ok((file, seconds)),
+            Ok(false) => return Ok((file, true)),
             Ok(true) => {}
-            Err(Refused::Unfit(InPlaceFault::Busy)) => return Ok((file, 0)),
+            Err(Refused::Unfit(InPlaceFault::Busy)) => return Ok((file, false)),
             Err(refused) => return Err(StoreError::from(refused)),
         }
     }

@@ -20,7 +20,7 @@ pub use files_change::change_files;
 pub use files_fault::FilesFault;
 pub use operation::Operation;
 pub use put_if::{KeyIs, PutIf};
-pub use reader_recovery::recover_for_reader;
+pub use reader_recovery::{may_be_copied, recover_for_reader};
 pub use recovery::recover_files;
 pub use save_files_fault::SaveFilesFault;
 pub use state_calls::answer_over;

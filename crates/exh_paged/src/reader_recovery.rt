@@ -76,11 +76,11 @@ fn copied<D: Disk + Drop>(
     }
 }
 
-// Whether a reader may copy the log into the file: the file has a header by itself, or a damaged one into which the log was
-// being copied. Nothing is written.
-//
-// `Read`: the file or its log couldn't be read.
-fn may_be_copied<D: Disk>(alloc: Global, files: &mut SeenFiles<D>) -> Result<bool, FilesFault>
+/// Whether a reader may copy the log into the file: the file has a header by itself, or a damaged one into which the log was
+/// being copied. Nothing is written.
+///
+/// `Read`: the file or its log couldn't be read.
+pub fn may_be_copied<D: Disk>(alloc: Global, files: &mut SeenFiles<D>) -> Result<bool, FilesFault>
     requires log { IsTrue (D.Disk.is_usable files.old.log) }
     requires db { IsTrue (D.Disk.is_usable files.old.db) }
     ensures may { IfOk result (λ may. AreClean D.Disk files.new.log files.new.db → (IsTrue may ↔ MayBeCopied (seen_image D.Disk files.old.log files.old.db))) }

@@ -20,6 +20,7 @@ pub use laws::{exports_are_imported, exports_give_their_map, imports_leave_their
 pub use salvage_laws::legal_files_are_saved;
 pub use salvaging::salvage;
 
+mod blocks_with_log;
 mod compacting;
 mod counting;
 mod exporting;

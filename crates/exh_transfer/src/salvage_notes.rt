@@ -6,10 +6,9 @@ use exh_text::Escaped;
 use std::alloc::AllocError;
 use std::{fs, io};
 
-/// Says which keys are met again, how many blocks were read and are live pages, which are lost, and whether a log stands
-/// beside the file. An `AllocError` where memory is refused.
+/// Says which keys are met again, how many blocks were read and are live pages, and which are lost. An `AllocError` where
+/// memory is refused.
 pub(crate) fn tell_salvage(run: &Run<'_>, salvage: &Salvage, count: u32) -> Result<(), AllocError> {
-    tell_log(run);
     tell_repeats(run, &salvage.pairs)?;
     let path = Escaped(run.path);
     if salvage.lost > 0 {
@@ -23,8 +22,26 @@ pub(crate) fn tell_salvage(run: &Run<'_>, salvage: &Salvage, count: u32) -> Resu
     Ok(())
 }
 
-// Says of a log beside the file that it isn't read.
-fn tell_log(run: &Run<'_>) {
+/// Says of a log beside the file that it is read too; and which is the first of its own blocks, where those of the file come
+/// before.
+pub(crate) fn tell_log_read(run: &Run<'_>, first: Option<u32>) {
+    if let Ok(Some(log)) = log_of(run) {
+        let path = Escaped(run.path);
+        let log = Escaped(log.path());
+        let _ = eprintln!(run.rt;
+            "exhash: {path}: a log stands beside it, {log}, and is read with it"
+        );
+    }
+    if let Some(first) = first {
+        let path = Escaped(run.path);
+        let _ = eprintln!(run.rt;
+            "exhash: {path}: blocks from {first} on are those that the log changes"
+        );
+    }
+}
+
+/// Says of a log beside the file that it isn't read.
+pub(crate) fn tell_log_unread(run: &Run<'_>) {
     if let Ok(Some(log)) = log_of(run) {
         let path = Escaped(run.path);
         let log = Escaped(log.path());

@@ -4,8 +4,10 @@ ghost use Rattle.exh_stream.specs.Output.{SameWriter, held, pending, writer_fail
 ghost use Rattle.exh_run.specs.Ends.{Ends};
 ghost use Rattle.exh_transfer.specs.Salvages.{SalvageEnds, line_of_saved, salvage_ended, salvage_status, saved_text};
 
+use crate::blocks_with_log::BlocksWithLog;
 use crate::open_blocks::OpenBlocks;
-use crate::salvage_notes::tell_salvage;
+use crate::salvage_notes::{tell_log_read, tell_log_unread, tell_salvage};
+use exh_map::{InMemory, read_with_log};
 use exh_pair_text::{PairFormat, push_end, push_opening, push_pair};
 use exh_run::{Run, Status, StoreError, open_regular, refuse_reading, tell_text};
 use exh_salvage::{Salvage, SavedPair, salvage_of};
@@ -14,7 +16,8 @@ use std::alloc::{AllocError, Global};
 use std::io::Write;
 
 /// Prints the pairs of each block of the file that is a live page, in a format, as an export prints those of a legal file.
-/// Standard error says how many blocks there are, which are lost, and which keys are met again.
+/// Where a log stands beside it that fits, its blocks are those of the file with what the log has. Standard error says how many
+/// blocks there are, which are lost, and which keys are met again.
 pub fn salvage<W: Write>(
     run: &Run<'_>,
     format: PairFormat,
@@ -33,9 +36,35 @@ pub fn salvage<W: Write>(
 // What is saved of the file, which is said on standard error.
 fn salvaged_at(run: &Run<'_>) -> Result<Salvage, StoreError> {
     let file = open_regular(run.rt, run.path)?;
-    let mut blocks = OpenBlocks::of(&file)?;
+    let blocks = OpenBlocks::of(&file)?;
+    match read_with_log(run.rt, run.path, &file) {
+        Ok(Some(found)) => salvaged_with_log(run, blocks, &found),
+        Ok(None) => salvaged_from(run, blocks),
+        Err(_) => {
+            tell_log_unread(run);
+            salvaged_from(run, blocks)
+        }
+    }
+}
+
+// What is saved of blocks of the file alone.
+fn salvaged_from(run: &Run<'_>, mut blocks: OpenBlocks<'_>) -> Result<Salvage, StoreError> {
     let count = blocks.count;
     let salvage = salvage_of(run.rt.alloc(), &mut blocks, count)?;
+    tell_salvage(run, &salvage, count)?;
+    Ok(salvage)
+}
+
+// What is saved of the file and its log.
+fn salvaged_with_log(
+    run: &Run<'_>,
+    blocks: OpenBlocks<'_>,
+    found: &InMemory,
+) -> Result<Salvage, StoreError> {
+    let mut blocks = BlocksWithLog::of(run.rt.alloc(), blocks, found)?;
+    let count = blocks.count();
+    let salvage = salvage_of(run.rt.alloc(), &mut blocks, count)?;
+    tell_log_read(run, blocks.first_of_log());
     tell_salvage(run, &salvage, count)?;
     Ok(salvage)
 }
