@@ -45,15 +45,38 @@ pub(crate) fn run<R: Threads + Wait + Sync, F: Identity + Sync + Send, S: Start 
     requires hashed { F.hashing ≡ plain_pseudokey }
 {
     let mut file = new_file::<F>(run.alloc, CAP, 2, answers, entries)?;
-    let mut last = next_caller(&mut file, copies)?;
-    let jobs = new_jobs(run, &mut file, copies)?;
+    match call_all(rt, run, &mut file, copies) {
+        Ok(seats) => settle(run, file, seats),
+        Err(difference) => Err(difference),
+    }
+}
+
+// Makes all calls. Who owns a file has few exits, for the prover's sake: each drops it.
+fn call_all<R: Threads + Wait + Sync, F: Identity + Sync + Send, S: Start + Sync + Send>(
+    rt: &R,
+    run: &mut Run,
+    file: &mut PlainFile<F>,
+    copies: &mut Vec<Reader<S>>,
+) -> Result<Vec<Seat<F>>, Difference> {
+    let mut last = next_caller(file, copies)?;
+    let jobs = new_jobs(run, file, copies)?;
     let calls = run.rounds;
-    let jobs = map_vec(rt, jobs, &|job| call_often(rt, &file, job, calls))?;
-    run.tally.check(get_all(rt, &file, &mut last));
+    let served: &PlainFile<F> = file;
+    let jobs = map_vec(rt, jobs, &|job| call_often(rt, served, job, calls))?;
+    run.tally.check(get_all(rt, served, &mut last));
     let mut seats = Vec::new(run.alloc);
     seats.push(last.seat)?;
     stand_up(run, jobs, &mut seats)?;
-    let want = u128::from(calls) * u128::from(CALLERS) + u128::from(KEYS);
+    Ok(seats)
+}
+
+// What the callers leave.
+fn settle<F: Identity>(
+    run: &mut Run,
+    file: PlainFile<F>,
+    seats: Vec<Seat<F>>,
+) -> Result<(), Difference> {
+    let want = u128::from(run.rounds) * u128::from(CALLERS) + u128::from(KEYS);
     let closed = close_settled(run, 2, file, seats, want)?;
     replay(run, closed.wards.as_slice());
     Ok(())

@@ -4,7 +4,7 @@ ghost use Rattle.exh_keyer.specs.Pseudokey.{plain_pseudokey};
 ghost use Rattle.exh_live.specs.declared.ledgers.TheConstants.{ANSWER_PARTS, ENTRY_PARTS};
 
 use exh_copy::Start;
-use exh_fakes::{CAP, PlainFile, Reader, close, is_told, new_file, next_caller, settled};
+use exh_fakes::{CAP, PlainFile, Reader, close, is_told, new_file, settled, two_callers};
 use exh_fixtures::{Asked, Difference, Part, Run, same};
 use exh_frames::PlainPages;
 use exh_keyer::PlainKeyer;
@@ -102,12 +102,27 @@ fn answered_by<R: Wait, F: Identity, S: Start>(
     requires hashed { F.hashing ≡ plain_pseudokey }
 {
     let mut file = new_file::<F>(alloc, CAP, 0, answers, entries)?;
-    let mut first = next_caller(&mut file, copies)?;
-    let second = next_caller(&mut file, copies)?;
-    is_told(rt, &file, &mut first, asked, &OpenGate, reply)?;
+    match two_callers(&mut file, copies) {
+        Ok((mut first, second)) => {
+            let told = is_told(rt, &file, &mut first, asked, &OpenGate, reply);
+            close_told(alloc, file, told, second.seat, first.seat)
+        }
+        Err(difference) => Err(difference),
+    }
+}
+
+// Closes a file of two seats, of whose calls this came. Who owns a file has few exits, for the prover's sake: each drops it.
+fn close_told<F: Identity>(
+    alloc: Global,
+    file: PlainFile<F>,
+    told: Result<(), Difference>,
+    seat: Seat<F>,
+    last: Seat<F>,
+) -> Result<PlainClosed, Difference> {
+    told?;
     let mut seats = Vec::new(alloc);
-    seats.push(second.seat)?;
-    close_twice(file, seats, first.seat)
+    seats.push(seat)?;
+    close_twice(file, seats, last)
 }
 
 // Closes a file of two seats without the last one, which is refused, and then with it.

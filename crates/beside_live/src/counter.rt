@@ -5,11 +5,11 @@ ghost use Rattle.exh_live.specs.declared.ledgers.TheConstants.{ANSWER_PARTS, ENT
 
 use exh_fakes::{
     CAP, Caller, Conductor, Count, PlainFile, PlainWard, Reader, Rule, Then, Who, ask,
-    close_settled, is_told, new_file, next_caller,
+    close_settled, is_told, new_file, two_callers, two_seats,
 };
 use exh_fixtures::{Asked, Difference, Part, Run, again, same, told_reply, value};
 use exh_keyer::PlainKeyer;
-use exh_live::{ANSWER_PARTS, ENTRY_PARTS, Gate, Identity, OpenGate};
+use exh_live::{ANSWER_PARTS, ENTRY_PARTS, Gate, Identity, OpenGate, Seat};
 use exh_model::audit;
 use exh_page::Value;
 use exh_ward::{Call, Reply};
@@ -52,12 +52,24 @@ pub(crate) fn run<R: Threads + Wait + Clock + Sync, F: Identity + Sync + Send>(
     requires hashed { F.hashing ≡ plain_pseudokey }
 {
     let mut file = new_file::<F>(run.alloc, CAP, 0, answers, entries)?;
-    let mut first = next_caller(&mut file, copies)?;
-    let mut second = next_caller(&mut file, copies)?;
-    let answered = count_both(rt, run, &file, &mut first, &mut second);
-    let mut seats = Vec::new(run.alloc);
-    seats.push(first.seat)?;
-    seats.push(second.seat)?;
+    match two_callers(&mut file, copies) {
+        Ok((mut first, mut second)) => {
+            let answered = count_both(rt, run, &file, &mut first, &mut second);
+            let seats = two_seats(run.alloc, first, second);
+            settle(run, file, seats, answered)
+        }
+        Err(difference) => Err(difference),
+    }
+}
+
+// What the callers leave. Who owns a file has few exits, for the prover's sake: each drops it.
+fn settle<F: Identity>(
+    run: &mut Run,
+    file: PlainFile<F>,
+    seats: Result<Vec<Seat<F>>, AllocError>,
+    answered: u128,
+) -> Result<(), Difference> {
+    let seats = seats?;
     let closed = close_settled(run, 0, file, seats, answered)?;
     for ward in closed.wards.as_slice() {
         let told = is_history(run, ward);

@@ -7,13 +7,14 @@ ghost use Rattle.exh_live.specs.declared.ledgers.TheConstants.{ANSWER_PARTS, ENT
 use crate::ask::ask_all;
 use exh_fakes::{
     CAP, Caller, Conductor, Count, PlainFile, Reader, Rule, Then, Who, close_settled, is_told,
-    new_file, next_caller,
+    new_file, two_callers, two_seats,
 };
 use exh_fixtures::{Asked, Difference, Part, Run, Said, same, value};
 use exh_frames::PlainPages;
 use exh_keyer::PlainKeyer;
-use exh_live::{ANSWER_PARTS, ENTRY_PARTS, Identity, OpenGate};
+use exh_live::{ANSWER_PARTS, ENTRY_PARTS, Identity, OpenGate, Seat};
 use exh_ward::{JournalEntry, Reply, Ward};
+use std::alloc::AllocError;
 use std::sync::Wait;
 use std::sync::ledger::Blank;
 use std::thread::{Threads, join};
@@ -57,12 +58,23 @@ pub(crate) fn run<R: Threads + Wait + Clock + Sync, F: Identity + Sync + Send>(
     requires hashed { F.hashing ≡ plain_pseudokey }
 {
     let mut file = new_file::<F>(run.alloc, CAP, 0, answers, entries)?;
-    let mut first = next_caller(&mut file, copies)?;
-    let mut second = next_caller(&mut file, copies)?;
-    take_steps(rt, run, &file, &mut first, &mut second);
-    let mut seats = Vec::new(run.alloc);
-    seats.push(first.seat)?;
-    seats.push(second.seat)?;
+    match two_callers(&mut file, copies) {
+        Ok((mut first, mut second)) => {
+            take_steps(rt, run, &file, &mut first, &mut second);
+            let seats = two_seats(run.alloc, first, second);
+            settle(run, file, seats)
+        }
+        Err(difference) => Err(difference),
+    }
+}
+
+// What the callers leave. Who owns a file has few exits, for the prover's sake: each drops it.
+fn settle<F: Identity>(
+    run: &mut Run,
+    file: PlainFile<F>,
+    seats: Result<Vec<Seat<F>>, AllocError>,
+) -> Result<(), Difference> {
+    let seats = seats?;
     let closed = close_settled(run, 0, file, seats, 5)?;
     run.tally.step(has_journal(closed.wards.as_slice()));
     Ok(())

@@ -5,7 +5,7 @@ ghost use Rattle.exh_live.specs.declared.ledgers.TheConstants.{ANSWER_PARTS, ENT
 
 use exh_fakes::{
     Caller, Conductor, IS_LATE, IS_READ, Look, MAY_GO, Reader, WatchedFile, WatchedMaker, is_told,
-    next_caller, watched_file,
+    two_callers, watched_file,
 };
 use exh_fixtures::{Asked, Difference, Part, Run, same};
 use exh_frames::{Pages, StoreMaker};
@@ -38,8 +38,7 @@ pub(crate) fn run<
 {
     let maker = WatchedMaker::new(&*stores, Look::Waits, &*signs);
     let mut file = watched_file::<P, M, R, F>(run.alloc, &maker, 1, answers, entries)?;
-    let mut first = next_caller(&mut file, copies)?;
-    let mut second = next_caller(&mut file, copies)?;
+    let (mut first, mut second) = two_callers(&mut file, copies)?;
     let (waited, told) = join(
         rt,
         || put(rt, &file, &mut first, b"\0"),

@@ -76,16 +76,7 @@ fn play<R: Threads + Wait + Clock + Sync, F: Identity + Sync + Send>(
             )
         }
         Story::LocksOverImages => {
-            let maker = FramedMaker::new(CACHE_SIZE).map_err(|_| Difference::Apart(Part::Run))?;
-            crate::locks::run::<R, FramedPages<PlainKeyer>, FramedMaker, F>(
-                rt,
-                run,
-                &mut copies,
-                &signs,
-                &maker,
-                answers,
-                entries,
-            )
+            locks_over_images::<R, F>(rt, run, &mut copies, &signs, answers, entries)
         }
         Story::Refill => crate::refill::run::<R, F>(rt, run, &mut copies, &signs, answers, entries),
         Story::Counter => crate::counter::run::<R, F>(rt, run, &mut copies, answers, entries),
@@ -94,6 +85,26 @@ fn play<R: Threads + Wait + Clock + Sync, F: Identity + Sync + Send>(
             crate::storms::play(rt, story, run);
             Ok(())
         }
+    }
+}
+
+fn locks_over_images<R: Threads + Wait + Clock + Sync, F: Identity + Sync + Send>(
+    rt: &R,
+    run: &mut Run,
+    copies: &mut Vec<Reader>,
+    signs: &Conductor<'_, R>,
+    answers: Blank,
+    entries: Blank,
+) -> Result<(), Difference>
+    requires answers { (answers.name ≡ F.answers) × (answers.parts ≡ ANSWER_PARTS) }
+    requires entries { (entries.name ≡ F.entries) × (entries.parts ≡ ENTRY_PARTS) }
+    requires hashed { F.hashing ≡ plain_pseudokey }
+{
+    match FramedMaker::new(CACHE_SIZE) {
+        Ok(maker) => crate::locks::run::<R, FramedPages<PlainKeyer>, FramedMaker, F>(
+            rt, run, copies, signs, &maker, answers, entries,
+        ),
+        Err(_) => Err(Difference::Apart(Part::Run)),
     }
 }
 

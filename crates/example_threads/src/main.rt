@@ -9,9 +9,10 @@ ghost use Rattle.example_threads.specs.Unasked.{AreUnasked};
 mod caller;
 mod service;
 
-use crate::service::{NAMES, serve};
+use crate::service::{NAMES, Served, serve};
 use anyhow::Context;
 use exh_frames::FileStore;
+use exh_page::Value;
 use exh_stream::{Console, Meter, Unit, Work};
 use exh_system::{Draft, Opened, OpenedFile, SystemDisk, open, open_above, save_at};
 use std::str;
@@ -21,13 +22,28 @@ const PATH: &str = "people.exh";
 
 fn main(rt: HostRuntime) -> anyhow::Result<()> {
     let (opened, seen) = open_at(&rt, PATH)?;
-    let served = serve(&rt, rt.alloc(), opened)?;
-    for (name, value) in NAMES.iter().zip(&served.values) {
+    match serve(&rt, rt.alloc(), opened) {
+        Ok(served) => end(&rt, &seen, served),
+        Err(error) => Err(error),
+    }
+}
+
+// Tells what was served, and saves the file.
+fn end(rt: &HostRuntime, seen: &OpenedFile, served: Served) -> anyhow::Result<()> {
+    match tell(rt, &served.values, served.answers) {
+        Ok(()) => save(rt, PATH, seen, served.opened),
+        Err(error) => Err(error),
+    }
+}
+
+// Tells the values of the names, and how many answers were settled.
+fn tell(rt: &HostRuntime, values: &[Value], answers: u128) -> anyhow::Result<()> {
+    for (name, value) in NAMES.iter().zip(values) {
         let text = str::from_utf8(value.as_bytes()).context("a value isn't text")?;
         println!(rt; "{name} is {text}")?;
     }
-    println!(rt; "settled {}", served.answers)?;
-    save(&rt, PATH, &seen, served.opened)
+    println!(rt; "settled {answers}")?;
+    Ok(())
 }
 
 // The wards of the page file of a path, and the file, which is held open.

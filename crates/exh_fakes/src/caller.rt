@@ -9,6 +9,7 @@ use exh_keyer::PlainKeyer;
 use exh_live::{Identity, LiveFile, Seat};
 use exh_stores::{Pages, PlainPages};
 use exh_walk::{AskFault, Gate};
+use std::alloc::{AllocError, Global};
 use std::marker::Brand;
 use std::sync::Wait;
 
@@ -43,6 +44,30 @@ pub fn next_caller<P: Pages + Drop, F: Identity, S: Start>(
         Ok(seat) => Ok(Caller { seat, copy }),
         Err(_) => Err(Difference::Apart(Part::Run)),
     }
+}
+
+/// The next two callers of a file, with two of these readers.
+pub fn two_callers<P: Pages + Drop, F: Identity, S: Start>(
+    file: &mut File<P, F>,
+    copies: &mut Vec<CopyReader<S>>,
+) -> Result<(Caller<F, S>, Caller<F, S>), Difference> {
+    let first = next_caller(file, copies)?;
+    match next_caller(file, copies) {
+        Ok(second) => Ok((first, second)),
+        Err(difference) => Err(difference),
+    }
+}
+
+/// The seats of two callers, in this order.
+pub fn two_seats<F: Identity, S: Start>(
+    alloc: Global,
+    first: Caller<F, S>,
+    second: Caller<F, S>,
+) -> Result<Vec<Seat<F>>, AllocError> {
+    let mut seats = Vec::new(alloc);
+    seats.push(first.seat)?;
+    seats.push(second.seat)?;
+    Ok(seats)
 }
 
 // This asks once, and needs nothing of the file: what calls it is proved with less.

@@ -6,7 +6,9 @@
 //! stores of pages that count, or wait, where they are looked at. What is refused memory is asked once more.
 #![tactic(auto)]
 
-pub use caller::{Caller, File, PlainFile, Reader, ask, is_held, is_told, next_caller};
+pub use caller::{
+    Caller, File, PlainFile, Reader, ask, is_held, is_told, next_caller, two_callers, two_seats,
+};
 pub use conductor::{Conductor, Count};
 pub use file::{WatchedFile, watched_file};
 pub use files::{CAP, PlainWard, close, close_settled, new_file, one_ward_file, settled};

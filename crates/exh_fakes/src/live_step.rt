@@ -12,7 +12,7 @@ use exh_keyer::{Keyer, PlainKeyer};
 use exh_live::{Cursors, Identity};
 use exh_prefix::PageNo;
 use exh_table::Table;
-use exh_walk::{OpenGate, TurnGate};
+use exh_walk::{Gate, OpenGate, TurnGate};
 use std::alloc::{AllocError, Global};
 use std::mem::replace;
 use std::sync::Wait;
@@ -148,13 +148,9 @@ fn take<R: Wait, F: Identity, S: Start>(
     ensures own { caller.new.copy.name ≡ writer.new.name }
 {
     match step {
-        LiveStep::Call(said) => {
-            let reply = told_reply(&mut run.lie, said.reply()?);
-            is_told(rt, file, caller, said.asked(), &OpenGate, reply)
-        }
+        LiveStep::Call(said) => is_called(rt, run, file, caller, said, &OpenGate),
         LiveStep::Within(turns, said) => {
-            let reply = told_reply(&mut run.lie, said.reply()?);
-            is_told(rt, file, caller, said.asked(), &TurnGate(*turns), reply)
+            is_called(rt, run, file, caller, said, &TurnGate(*turns))
         }
         LiveStep::Held(turns, key) => {
             is_held(rt, file, caller, Asked::Get(key), &TurnGate(*turns))
@@ -167,19 +163,48 @@ fn take<R: Wait, F: Identity, S: Start>(
         LiveStep::Refilled(times) => are_refilled(rt, file, ward_bits, caller, *times),
         LiveStep::Often(times, said) => is_told_often(rt, file, caller, *times, said),
         LiveStep::Closed(turns, said) => {
-            let closed = closed_reader(rt, run.alloc, ward_bits)?;
+            let closed = closed_reader(rt, run.alloc, ward_bits);
             is_told_closed(rt, file, caller, closed, *turns, said)
         }
-        LiveStep::Stale(notices) => {
-            let mut others = first_cursors(run.alloc, ward_bits, &Table::new(run.alloc))?;
-            is_carried(rt, file, writer, &mut others, *notices)
-        }
+        LiveStep::Stale(notices) => is_stale(rt, run.alloc, file, ward_bits, writer, *notices),
         LiveStep::Refused(growth) => is_refused(rt, run.alloc, file, writer, cursors, *growth),
         LiveStep::Named(key, page) => is_named(writer, &mut caller.copy, key, *page),
         LiveStep::Anew(notices, keys, page) => {
             is_carried_anew::<R, F, S>(rt, run.alloc, file, ward_bits, *notices, keys, *page)
         }
     }
+}
+
+// Whether a call has its reply under a gate. The first reply is taken for a wrong one where that is due.
+fn is_called<R: Wait, F: Identity, S: Start, G: Gate>(
+    rt: &R,
+    run: &mut Run,
+    file: &PlainFile<F>,
+    caller: &mut Caller<F, S>,
+    said: &Said<'static>,
+    gate: &G,
+) -> Result<(), Difference>
+    ensures { caller.new.copy.name ≡ caller.old.copy.name }
+{
+    let reply = told_reply(&mut run.lie, said.reply()?);
+    is_told(rt, file, caller, said.asked(), gate, reply)
+}
+
+// Whether a round of a courier to a copy that was told of nothing takes so many notices.
+fn is_stale<R: Wait, F: Identity, S: Start>(
+    rt: &R,
+    alloc: Global,
+    file: &PlainFile<F>,
+    ward_bits: u8,
+    writer: &mut Writer<S>,
+    notices: u64,
+) -> Result<(), Difference>
+    requires limit { file.now.ward_bits ≤ WARD_BITS_LIMIT }
+    requires bits { ward_bits ≡ file.now.ward_bits }
+    ensures { writer.new.name ≡ writer.old.name }
+{
+    let mut others = first_cursors(alloc, ward_bits, &Table::new(alloc))?;
+    is_carried(rt, file, writer, &mut others, notices)
 }
 
 // Whether a keeper's round in a ward makes so many merges. A `Difference` where there is no such ward.
@@ -291,12 +316,13 @@ fn is_told_closed<R: Wait, F: Identity, S: Start>(
     rt: &R,
     file: &PlainFile<F>,
     caller: &mut Caller<F, S>,
-    closed: Reader<S>,
+    closed: Result<Reader<S>, Difference>,
     turns: u32,
     said: &Said<'static>,
 ) -> Result<(), Difference>
     ensures { caller.new.copy.name ≡ caller.old.copy.name }
 {
+    let closed = closed?;
     let reply = said.reply()?;
     let own = replace(&mut caller.copy, closed);
     let held = is_held(rt, file, caller, said.asked(), &TurnGate(turns));

@@ -98,8 +98,23 @@ fn reads_what_is_there_and_takes_the_line_away(rt: HostRuntime) -> Result<(), Fa
     Ok(())
 }
 
+// Whether a write passes, and the line is shown behind it.
+fn is_written(screen: &Screen, meter: &Meter<&Screen>) -> bool {
+    let is_ok = MeteredWriter::new(screen, meter).write_all(b"x").is_ok();
+    is_ok && screen.has_shown(b"x\r\x1b[?7lexhash: 0 blocks written\x1b[K\x1b[?7h")
+}
+
+// Whether the line is taken away before what is written.
+fn is_cleared(screen: &Screen, meter: &Meter<&Screen>) -> bool {
+    let mut clearing = ClearingWriter::new(screen, meter);
+    let are_ok = clearing.write_all(b"a\n").is_ok()
+        && clearing.write_all(b"b\n").is_ok()
+        && clearing.flush().is_ok();
+    are_ok && screen.has_shown(b"\r\x1b[Ka\nb\n")
+}
+
 #[test]
-fn writes_what_it_gets(rt: HostRuntime) -> Result<(), Fail> {
+fn writes_what_it_gets(rt: HostRuntime) {
     let screen = Screen::new(rt.alloc());
     let written = Work {
         unit: Unit::BlocksWritten,
@@ -107,12 +122,6 @@ fn writes_what_it_gets(rt: HostRuntime) -> Result<(), Fail> {
     };
     let meter = Meter::new(Some(&screen), written);
     screen.now.set(Some(3000));
-    MeteredWriter::new(&screen, &meter).write_all(b"x")?;
-    assert!(rt; screen.has_shown(b"x\r\x1b[?7lexhash: 0 blocks written\x1b[K\x1b[?7h"));
-    let mut clearing = ClearingWriter::new(&screen, &meter);
-    clearing.write_all(b"a\n")?;
-    clearing.write_all(b"b\n")?;
-    clearing.flush()?;
-    assert!(rt; screen.has_shown(b"\r\x1b[Ka\nb\n"));
-    Ok(())
+    assert!(rt; is_written(&screen, &meter));
+    assert!(rt; is_cleared(&screen, &meter));
 }

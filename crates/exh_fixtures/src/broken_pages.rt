@@ -2,12 +2,12 @@
 ghost use Rattle.std.specs.Prelude.{◌≡◌};
 ghost use Rattle.exh_stores.specs.PageStore.{CountsFaults};
 
-use exh_codec::BLOCK_LEN;
-use exh_page::{Key, Lookup, Page, PageHead, Spot, Value};
-use exh_prefix::{PageNo, Prefix};
+use exh_page::{Key, Lookup, Page};
+use exh_prefix::PageNo;
 use exh_stores::{Pages, PagesFault, PlainPages};
 
-/// Pages in memory. Of the calls that answer a `Result` so many as are left are done, and each later one fails.
+/// Pages in memory. Of the calls that answer a `Result` so many as are left are done, and each later one fails. It writes only the
+/// calls that `Pages` has no body for.
 #[derive(Drop)]
 pub struct BrokenPages {
     pub inner: PlainPages,
@@ -61,16 +61,6 @@ impl Pages for BrokenPages {
         self.inner.get(number)
     }
 
-    fn head(&mut self, number: PageNo) -> Result<PageHead, PagesFault> {
-        self.enter()?;
-        self.inner.head(number)
-    }
-
-    fn block(&mut self, number: PageNo, out: &mut [u8; BLOCK_LEN]) -> Result<(), PagesFault> {
-        self.enter()?;
-        self.inner.block(number, out)
-    }
-
     fn fetch(&mut self, number: PageNo) -> Result<(), PagesFault> {
         self.enter()?;
         self.inner.fetch(number)
@@ -87,23 +77,6 @@ impl Pages for BrokenPages {
 
     fn find(&self, number: PageNo, pseudokey: u64, key: &Key) -> Lookup<'_> {
         self.inner.find(number, pseudokey, key)
-    }
-
-    fn put_at(
-        &mut self,
-        number: PageNo,
-        stood: Option<Spot>,
-        pseudokey: u64,
-        key: &Key,
-        value: &Value,
-    ) -> Result<(), PagesFault> {
-        self.enter()?;
-        self.inner.put_at(number, stood, pseudokey, key, value)
-    }
-
-    fn remove_at(&mut self, number: PageNo, spot: Spot) -> Result<(), PagesFault> {
-        self.enter()?;
-        self.inner.remove_at(number, spot)
     }
 
     fn set(&mut self, number: PageNo, page: Page) -> Result<(), PagesFault> {
@@ -125,20 +98,5 @@ impl Pages for BrokenPages {
     fn grow_and_set(&mut self, new: Page, number: PageNo, page: Page) -> Result<(), PagesFault> {
         self.enter()?;
         self.inner.grow_and_set(new, number, page)
-    }
-
-    fn split_into(&mut self, number: PageNo, right: PageNo) -> Result<(), PagesFault> {
-        self.enter()?;
-        self.inner.split_into(number, right)
-    }
-
-    fn split_off(&mut self, number: PageNo) -> Result<(), PagesFault> {
-        self.enter()?;
-        self.inner.split_off(number)
-    }
-
-    fn merge(&mut self, parent: Prefix, number: PageNo, buddy: PageNo) -> Result<(), PagesFault> {
-        self.enter()?;
-        self.inner.merge(parent, number, buddy)
     }
 }

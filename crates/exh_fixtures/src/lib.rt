@@ -23,7 +23,7 @@ pub use same_pages::are_same;
 pub use screen::Screen;
 pub use status::Status;
 pub use tally::Tally;
-pub use ward_calls::{hop, hop_of, merge_page, page, refused, split_page};
+pub use ward_calls::{hop_of, refused, split_page};
 
 mod again;
 mod broken_pages;

@@ -18,13 +18,4 @@ impl Lie {
         self.waits = false;
         waits
     }
-
-    /// The number, or the one after it.
-    pub fn number(&mut self, number: u32) -> u32 {
-        if self.is_due() {
-            number.wrapping_add(1)
-        } else {
-            number
-        }
-    }
 }

@@ -4,7 +4,6 @@ use crate::{Difference, again};
 use exh_calls::Call;
 use exh_keyer::{Keyer, PlainKeyer};
 use exh_notice::Notice;
-use exh_page::Page;
 use exh_prefix::PageNo;
 use exh_stores::Pages;
 use exh_ward::{Hop, Ward, WardFault};
@@ -31,30 +30,7 @@ fn split_once<P: Pages + Drop>(
     ward.split(page)
 }
 
-fn merge_once<P: Pages + Drop>(
-    ward: &mut Ward<P, PlainKeyer>,
-    page: PageNo,
-) -> Result<Notice, WardFault> {
-    ward.merge(page)
-}
-
-fn page_once<P: Pages + Drop>(
-    ward: &mut Ward<P, PlainKeyer>,
-    number: PageNo,
-) -> Result<Page, WardFault> {
-    ward.page(number)
-}
-
-/// A hop of client 1. Refused as `Ward::hop`, and `NoPage` where the ward doesn't cover the key.
-pub fn hop<P: Pages + Drop>(
-    ward: &mut Ward<P, PlainKeyer>,
-    at: PageNo,
-    call: &Call,
-) -> Result<Hop, WardFault> {
-    hop_of(ward, at, 1, call)
-}
-
-/// A hop of a client. Refused as `hop`.
+/// A hop of a client. Refused as `Ward::hop`, and `NoPage` where the ward doesn't cover the key.
 pub fn hop_of<P: Pages + Drop>(
     ward: &mut Ward<P, PlainKeyer>,
     at: PageNo,
@@ -70,22 +46,6 @@ pub fn split_page<P: Pages + Drop>(
     page: PageNo,
 ) -> Result<Notice, WardFault> {
     again!(Err(WardFault::Memory) => split_once(ward, page))
-}
-
-/// A merge. Refused as `Ward::merge`.
-pub fn merge_page<P: Pages + Drop>(
-    ward: &mut Ward<P, PlainKeyer>,
-    page: PageNo,
-) -> Result<Notice, WardFault> {
-    again!(Err(WardFault::Memory) => merge_once(ward, page))
-}
-
-/// A page equal to the one of this number. Refused as `Ward::page`.
-pub fn page<P: Pages + Drop>(
-    ward: &mut Ward<P, PlainKeyer>,
-    number: PageNo,
-) -> Result<Page, WardFault> {
-    again!(Err(WardFault::Memory) => page_once(ward, number))
 }
 
 /// What is left to say where a ward should not have refused.

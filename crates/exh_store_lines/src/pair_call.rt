@@ -5,50 +5,39 @@ use exh_calls::Reply;
 use exhash::{Direct, Store};
 use std::alloc::Global;
 
-/// A call about one key.
+// The word of no bytes.
+const NO_BYTES: &[u8] = b"#";
+
+/// Which call is asked.
+#[derive(Clone, Copy)]
+enum Verb {
+    Get,
+    Put,
+    PutNew,
+    Replace,
+    Remove,
+    Swap,
+}
+
+/// A call about one key. It has an old value for a swap alone, and a new one where it puts one.
 #[derive(Drop)]
-pub(crate) enum PairCall {
-    Get {
-        key: Vec<u8>,
-    },
-    Put {
-        key: Vec<u8>,
-        value: Vec<u8>,
-    },
-    PutNew {
-        key: Vec<u8>,
-        value: Vec<u8>,
-    },
-    Replace {
-        key: Vec<u8>,
-        value: Vec<u8>,
-    },
-    Remove {
-        key: Vec<u8>,
-    },
-    Swap {
-        key: Vec<u8>,
-        old: Vec<u8>,
-        new: Vec<u8>,
-    },
+pub(crate) struct PairCall {
+    verb: Verb,
+    key: Vec<u8>,
+    old: Vec<u8>,
+    new: Vec<u8>,
 }
 
 impl PairCall {
     /// The call that words spell. `Wrong`: they spell none. `Store`: memory was refused.
     pub(crate) fn of(alloc: Global, words: &[&[u8]]) -> Result<PairCall, LineFault> {
         match words {
-            [b"get", key] => Ok(PairCall::Get {
-                key: bytes_of(alloc, key)?,
-            }),
-            [b"remove", key] => Ok(PairCall::Remove {
-                key: bytes_of(alloc, key)?,
-            }),
-            [b"swap", key, old, new] => Ok(PairCall::Swap {
-                key: bytes_of(alloc, key)?,
-                old: bytes_of(alloc, old)?,
-                new: bytes_of(alloc, new)?,
-            }),
-            [verb, key, value] => put_of(verb, bytes_of(alloc, key)?, bytes_of(alloc, value)?),
+            [b"get", key] => spelled(alloc, Verb::Get, key, NO_BYTES, NO_BYTES),
+            [b"put", key, value] => spelled(alloc, Verb::Put, key, NO_BYTES, value),
+            [b"put-new", key, value] => spelled(alloc, Verb::PutNew, key, NO_BYTES, value),
+            [b"replace", key, value] => spelled(alloc, Verb::Replace, key, NO_BYTES, value),
+            [b"remove", key] => spelled(alloc, Verb::Remove, key, NO_BYTES, NO_BYTES),
+            [b"swap", key, old, new] => spelled(alloc, Verb::Swap, key, old, new),
             _ => Err(LineFault::Wrong),
         }
     }
@@ -57,13 +46,13 @@ impl PairCall {
     ///
     /// `Store`: it refuses the call.
     pub(crate) fn over_store(&self, store: &mut Store<'_>) -> Result<Reply, LineFault> {
-        match self {
-            PairCall::Get { key } => of_get(store.get(key)),
-            PairCall::Put { key, value } => of_put(store.put(key, value)),
-            PairCall::PutNew { key, value } => of_put_new(store.put_new(key, value)),
-            PairCall::Replace { key, value } => of_replace(store.replace(key, value)),
-            PairCall::Remove { key } => of_remove(store.remove(key)),
-            PairCall::Swap { key, old, new } => of_swap(store.swap(key, old, new)),
+        match self.verb {
+            Verb::Get => of_get(store.get(&self.key)),
+            Verb::Put => of_put(store.put(&self.key, &self.new)),
+            Verb::PutNew => of_put_new(store.put_new(&self.key, &self.new)),
+            Verb::Replace => of_replace(store.replace(&self.key, &self.new)),
+            Verb::Remove => of_remove(store.remove(&self.key)),
+            Verb::Swap => of_swap(store.swap(&self.key, &self.old, &self.new)),
         }
     }
 
@@ -71,23 +60,32 @@ impl PairCall {
     ///
     /// `Store`: it is refused.
     pub(crate) fn over_file(&self, file: &Direct<'_>) -> Result<Reply, LineFault> {
-        match self {
-            PairCall::Get { key } => of_get(file.get(key)),
-            PairCall::Put { key, value } => of_put(file.put(key, value)),
-            PairCall::PutNew { key, value } => of_put_new(file.put_new(key, value)),
-            PairCall::Replace { key, value } => of_replace(file.replace(key, value)),
-            PairCall::Remove { key } => of_remove(file.remove(key)),
-            PairCall::Swap { key, old, new } => of_swap(file.swap(key, old, new)),
+        match self.verb {
+            Verb::Get => of_get(file.get(&self.key)),
+            Verb::Put => of_put(file.put(&self.key, &self.new)),
+            Verb::PutNew => of_put_new(file.put_new(&self.key, &self.new)),
+            Verb::Replace => of_replace(file.replace(&self.key, &self.new)),
+            Verb::Remove => of_remove(file.remove(&self.key)),
+            Verb::Swap => of_swap(file.swap(&self.key, &self.old, &self.new)),
         }
     }
 }
 
-// The put of one of three kinds.
-fn put_of(verb: &[u8], key: Vec<u8>, value: Vec<u8>) -> Result<PairCall, LineFault> {
-    match verb {
-        b"put" => Ok(PairCall::Put { key, value }),
-        b"put-new" => Ok(PairCall::PutNew { key, value }),
-        b"replace" => Ok(PairCall::Replace { key, value }),
-        _ => Err(LineFault::Wrong),
-    }
+// The call of these words.
+fn spelled(
+    alloc: Global,
+    verb: Verb,
+    key: &[u8],
+    old: &[u8],
+    new: &[u8],
+) -> Result<PairCall, LineFault> {
+    let key = bytes_of(alloc, key)?;
+    let old = bytes_of(alloc, old)?;
+    let new = bytes_of(alloc, new)?;
+    Ok(PairCall {
+        verb,
+        key,
+        old,
+        new,
+    })
 }

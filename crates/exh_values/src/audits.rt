@@ -108,7 +108,7 @@ fn audited_wards(
     Ok(Some((pairs, entries)))
 }
 
-// The history of each ward begins anew with its 256th pair, and not again.
+// The history of each ward begins anew before its 257th pair, and not again.
 #[test]
 fn loaded_wards(rt: HostRuntime) -> Result<(), Fail> {
     let text = many_pairs(rt.alloc())?;

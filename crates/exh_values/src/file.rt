@@ -5,7 +5,7 @@ use exh_fixtures::three_pairs;
 use exh_frames::{FramedMaker, FramedPages};
 use exh_keyer::AnyKeyer;
 use exh_report::{Verdict, check_text, dump_text};
-use exh_script::{Opened, open, open_over, read_file, write_file};
+use exh_script::{Opened, open_over, read_file, write_file};
 use std::alloc::Global;
 use std::test::Fail;
 
@@ -23,41 +23,42 @@ pair #80 b
 entry - number 1 split right 1
 ";
 
+// Whether the parts that are read of the file are its own.
+fn is_read(alloc: Global, file: &[u8]) -> Result<bool, Fail> {
+    let mut reader = file;
+    let parts = read_file(alloc, &mut reader)?;
+    let is_header = parts.header.settings.cap == 2 && parts.header.entry_count == 1;
+    let is_ward = parts.wards.len() == 1 && parts.wards[0].len() == 2;
+    let is_entry = parts.entries.len() == 1 && parts.entries[0].entry.number == 1;
+    Ok(is_header && is_ward && is_entry)
+}
+
 #[test]
 fn file_is_read(rt: HostRuntime) -> Result<(), Fail> {
     let file = three_pairs(rt.alloc())?;
-    assert!(rt; file.len() == 16_384);
-    let parts = read_file(rt.alloc(), &mut file.as_slice())?;
-    assert!(rt; parts.header.settings.cap == 2 && parts.header.entry_count == 1);
-    assert!(rt; parts.wards.len() == 1 && parts.wards[0].len() == 2);
-    assert!(rt; parts.entries.len() == 1 && parts.entries[0].entry.number == 1);
+    assert!(rt; file.len() == 16_384 && is_read(rt.alloc(), &file)?);
     Ok(())
 }
 
-#[test]
-fn file_is_opened_and_written(rt: HostRuntime) -> Result<(), Fail> {
-    let file = three_pairs(rt.alloc())?;
-    let mut opened = open(rt.alloc(), &mut file.as_slice())?;
-    let mut written = Vec::new(rt.alloc());
-    write_file(&mut written, &mut opened)?;
-    assert!(rt; written.as_slice() == file.as_slice());
-    assert!(rt; opened.cap() == 2 && opened.wards()[0].page_count() == 2);
-    Ok(())
+// Whether wards over images are written as the bytes of a file. Who owns wards has few exits, for the prover's sake: each
+// drops them.
+fn is_written(alloc: Global, opened: &mut Opened<FramedPages<AnyKeyer>>, file: &[u8]) -> bool {
+    let mut written = Vec::new(alloc);
+    write_file(&mut written, opened).is_ok() && written.as_slice() == file
 }
 
 // The blocks of the pages are kept as they were read, and are written so.
+fn is_kept(alloc: Global, file: &[u8]) -> Result<bool, Fail> {
+    let maker = FramedMaker::new(2)?;
+    let mut reader = file;
+    let mut opened = open_over(alloc, &maker, &mut reader)?;
+    Ok(is_written(alloc, &mut opened, file))
+}
+
 #[test]
 fn file_is_opened_over_images(rt: HostRuntime) -> Result<(), Fail> {
     let file = three_pairs(rt.alloc())?;
-    let maker = FramedMaker::new(2)?;
-    let mut opened: Opened<FramedPages<AnyKeyer>> = open_over(
-        rt.alloc(),
-        &maker,
-        &mut file.as_slice(),
-    )?;
-    let mut written = Vec::new(rt.alloc());
-    write_file(&mut written, &mut opened)?;
-    assert!(rt; written.as_slice() == file.as_slice());
+    assert!(rt; is_kept(rt.alloc(), &file)?);
     Ok(())
 }
 

@@ -1,14 +1,12 @@
 //! Values worked out by hand that no contract has, and that no script and no file can ask of the program. It has tests
 //! alone.
 //!
-//! Each public call of the upper libraries once, from the crate that hands it out, with ample memory. It has tests
-//! alone.
+//! Each public call of the upper libraries that no other run makes, from the crate that hands it out, with ample memory. It
+//! has tests alone.
 #![tactic(auto)]
 
 #[cfg(test)]
 mod audits;
-#[cfg(test)]
-mod batches;
 #[cfg(test)]
 mod copies;
 #[cfg(test)]

@@ -1,8 +1,9 @@
 //! Pages, their images and stores, and a ward over one, by the calls that a program makes of them: of one record under the
 //! key of the byte 80 hexadecimal, whose bits under keyer plain begin with 1.
+ghost use Rattle.exh_page.specs.Page.{IsLive};
 
 use exh_codec::{BLOCK_LEN, ImageFault, decode_page, decode_page_v1, seal};
-use exh_frames::{FailingPages, FramedPages, Pages, PagesFault, PlainPages};
+use exh_frames::{FramedPages, Pages, PagesFault, PlainPages};
 use exh_keyer::PlainKeyer;
 use exh_notice::{ENTRY_IMAGE_LEN, Entry, Kind, NOTICE_IMAGE_LEN, Notice, NoticeFault, PageNo};
 use exh_page::{Key, Page, PageHead, Record, Records, Value};
@@ -25,25 +26,38 @@ fn keeps_a_record(alloc: Global) -> Option<bool> {
         Value::from_bytes(b"bb").ok()?,
     );
     let mut page = Page::Live {
-        prefix: Prefix::new(0, 0)?,
+        prefix: Prefix::of_number(0, 0),
         right: None,
         records: Records::new(alloc),
     };
-    let record = |value: Value| Record {
+    let is_put = puts(&mut page, key, old, None) && puts(&mut page, key, new, Some(old));
+    let is_taken = match page.try_clone() {
+        Ok(mut copy) => is_taken_out(&mut copy, &key, new),
+        Err(_) => false,
+    };
+    Some(is_put && is_taken && page.find(PSEUDOKEY, &key) == Some(new))
+}
+
+// Puts a value into a live page, and answers whether it replaces this one.
+fn puts(page: &mut Page, key: Key, value: Value, old: Option<Value>) -> bool
+    requires { IsLive page.old }
+    ensures { IsLive page.new }
+{
+    let item = Record {
         pseudokey: PSEUDOKEY,
         key,
         value,
     };
-    let is_put = page.put(record(old)).ok()? == None && page.put(record(new)).ok()? == Some(old);
-    let mut copy = page.try_clone().ok()?;
-    let is_taken = copy.remove(PSEUDOKEY, &key) == Some(new)
-        && copy.remove(PSEUDOKEY, &key) == None;
-    Some(
-        is_put
-            && is_taken
-            && page.find(PSEUDOKEY, &key) == Some(new)
-            && copy.find(PSEUDOKEY, &key) == None,
-    )
+    matches!(page.put(item), Ok(replaced) if replaced == old)
+}
+
+// Whether a key's value is taken out of a page once.
+fn is_taken_out(page: &mut Page, key: &Key, value: Value) -> bool
+    requires { IsLive page.old }
+{
+    page.remove(PSEUDOKEY, key) == Some(value)
+        && page.remove(PSEUDOKEY, key) == None
+        && page.find(PSEUDOKEY, key) == None
 }
 
 // The block of an empty live page of a prefix of 17 bits, ones, with no right link.
@@ -112,14 +126,6 @@ fn lends_its_pages(alloc: Global) -> Option<bool> {
     Some(is_new && matches!(first_low(&mut given), Some(Ok(PSEUDOKEY))))
 }
 
-// Whether a store of which the first call fails gives its page then.
-fn fails_once(alloc: Global) -> Option<bool> {
-    let mut store = FailingPages::new(PlainPages::new(alloc, first_page(alloc, 0, 0)).ok()?, 1);
-    let has_failed = matches!(first_low(&mut store), Some(Err(PagesFault::Page)));
-    let is_counted = store.failures() == 1;
-    Some(has_failed && is_counted && matches!(first_low(&mut store), Some(Ok(0))))
-}
-
 // Whether each page of a new ward is as far from a key as it is: none but page 0 is there.
 fn tells_distances(alloc: Global) -> Option<bool> {
     let store = PlainPages::new(alloc, first_page(alloc, 0, 0)).ok()?;
@@ -139,6 +145,5 @@ fn doors(rt: HostRuntime) {
     assert_eq!(rt; keeps_a_record(alloc), Some(true));
     assert_eq!(rt; reads_each_version(alloc), Some(true));
     assert_eq!(rt; lends_its_pages(alloc), Some(true));
-    assert_eq!(rt; fails_once(alloc), Some(true));
     assert_eq!(rt; tells_distances(alloc), Some(true));
 }
