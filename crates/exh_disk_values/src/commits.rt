@@ -1,4 +1,4 @@
-//! Commits of blocks over files in memory, and changes by a changer of one's own.
+//! Files of blocks in memory, of which calls are made to fail.
 ghost use Rattle.std.specs.Prelude.{⊤};
 
 use exh_codec::BLOCK_LEN;
@@ -6,10 +6,14 @@ use exh_commit::{
     BlockEdit, Blocks, ChangeFault, Changer, CommitFault, DirectFault, LogFault, PagedFile, open,
     see_log,
 };
-use sqlite_disk::{Disk, Files, Memory};
+use sqlite_disk::{Crash, Disk, Files, Fuse, Memory};
 use sqlite_pager::{Error, Options};
 use std::alloc::Global;
 use std::test::Fail;
+
+type Fused = Fuse<Memory>;
+
+const NO_END: u64 = u64::MAX;
 
 fn options() -> Options {
     Options {
@@ -20,22 +24,19 @@ fn options() -> Options {
     }
 }
 
-/// A file of blocks of ones and of twos, and an empty log.
-fn two_blocks(alloc: Global) -> Result<Files<Memory>, Fail> {
-    let mut db = Memory::new(alloc);
-    db.write_at(0, &[1; BLOCK_LEN])?;
-    db.write_at(BLOCK_LEN, &[2; BLOCK_LEN])?;
-    db.sync()?;
+/// A file of blocks of ones and of twos, and an empty log, which each pass so many calls on.
+fn two_blocks(alloc: Global, log_calls: u64, file_calls: u64) -> Result<Files<Fused>, Fail> {
+    let mut file = Memory::new(alloc);
+    file.write_at(0, &[1; BLOCK_LEN])?;
+    file.write_at(BLOCK_LEN, &[2; BLOCK_LEN])?;
+    file.sync()?;
     Ok(Files {
-        log: Memory::new(alloc),
-        db,
+        log: Fuse::new(Memory::new(alloc), log_calls),
+        db: Fuse::new(file, file_calls),
     })
 }
 
-fn opened(
-    alloc: Global,
-    files: Files<Memory>,
-) -> Result<PagedFile<Memory>, (Error, Files<Memory>)> {
+fn opened(alloc: Global, files: Files<Fused>) -> Result<PagedFile<Fused>, (Error, Files<Fused>)> {
     if !files.may_be_used() {
         return Err((Error::Closed, files));
     }
@@ -54,7 +55,7 @@ fn header() -> [u8; BLOCK_LEN] {
 }
 
 /// Commits a header, a block of threes in place of the twos, and one of fours behind it, and moves them into the file.
-fn edited(file: &mut PagedFile<Memory>) -> Result<(), ChangeFault> {
+fn edited(file: &mut PagedFile<Fused>) -> Result<(), ChangeFault> {
     if !file.is_ready() {
         return Err(ChangeFault::Open(Error::Closed));
     }
@@ -83,7 +84,7 @@ fn edited(file: &mut PagedFile<Memory>) -> Result<(), ChangeFault> {
 }
 
 /// The last byte of each of three blocks, 0 where there is none.
-fn last_bytes(file: &mut PagedFile<Memory>) -> Result<[u8; 3], Error> {
+fn last_bytes(file: &mut PagedFile<Fused>) -> Result<[u8; 3], Fail> {
     let mut lasts = [0; 3];
     let mut block = [0; BLOCK_LEN];
     for place in 0..3u32 {
@@ -95,40 +96,27 @@ fn last_bytes(file: &mut PagedFile<Memory>) -> Result<[u8; 3], Error> {
     Ok(lasts)
 }
 
-/// What stands at the ends of the three blocks behind the edits.
-fn edited_ends(file: &mut PagedFile<Memory>) -> Result<[u8; 3], ChangeFault> {
-    edited(file)?;
-    match last_bytes(file) {
-        Ok(lasts) => Ok(lasts),
-        Err(error) => Err(ChangeFault::Open(error)),
-    }
-}
-
-/// Whether the edits are made, and the file has them without its log. Who owns a file has few exits, for the prover's sake:
-/// each drops it.
-fn are_moved(file: PagedFile<Memory>) -> bool {
-    let mut file = file;
-    let ends = edited_ends(&mut file);
-    let files = file.close();
-    let bytes = files.db.bytes();
-    matches!(ends, Ok([1, 3, 4]))
-        && bytes.len() == 3 * BLOCK_LEN
-        && bytes.first() == Some(&b'E')
-        && bytes.last() == Some(&4)
-}
-
 #[test]
 fn blocks_are_edited_and_moved_into_the_file(rt: HostRuntime) -> Result<(), Fail> {
-    let are_moved = match opened(rt.alloc(), two_blocks(rt.alloc())?) {
-        Ok(file) => are_moved(file),
-        Err(_) => false,
+    let files = two_blocks(rt.alloc(), NO_END, NO_END)?;
+    let Ok(mut file) = opened(rt.alloc(), files) else {
+        return Err("an open file".into());
     };
-    assert!(rt; are_moved);
+    edited(&mut file)?;
+    assert_eq!(rt; last_bytes(&mut file)?, [1, 3, 4]);
+    let files = file.close();
+    let bytes = files.db.inner().bytes();
+    assert_eq!(rt; bytes.len(), 3 * BLOCK_LEN);
+    assert!(rt; bytes.first() == Some(&b'E') && bytes.last() == Some(&4));
     Ok(())
 }
 
-/// Whether edits of which one is behind the end are refused, and none is made.
-fn is_refused(file: &mut PagedFile<Memory>) -> bool {
+#[test]
+fn a_block_behind_the_end_is_refused(rt: HostRuntime) -> Result<(), Fail> {
+    let files = two_blocks(rt.alloc(), NO_END, NO_END)?;
+    let Ok(mut file) = opened(rt.alloc(), files) else {
+        return Err("an open file".into());
+    };
     let edits = [
         BlockEdit {
             place: 0,
@@ -139,24 +127,15 @@ fn is_refused(file: &mut PagedFile<Memory>) -> bool {
             block: [4; BLOCK_LEN],
         },
     ];
-    file.is_ready()
-        && matches!(file.commit(&edits), Err(CommitFault::Place(3)))
-        && file.is_ready()
-        && matches!(last_bytes(file), Ok([1, 2, 0]))
-}
-
-#[test]
-fn a_block_behind_the_end_is_refused(rt: HostRuntime) -> Result<(), Fail> {
-    let is_refused = match opened(rt.alloc(), two_blocks(rt.alloc())?) {
-        Ok(mut file) => is_refused(&mut file),
-        Err(_) => false,
-    };
-    assert!(rt; is_refused);
+    assert!(rt; file.is_ready());
+    assert!(rt; matches!(file.commit(&edits), Err(CommitFault::Place(3))));
+    assert!(rt; file.is_ready());
+    assert_eq!(rt; last_bytes(&mut file)?, [1, 2, 0]);
     Ok(())
 }
 
 /// Whether the edits were committed, and the files.
-fn run(alloc: Global, files: Files<Memory>) -> (bool, Files<Memory>) {
+fn run(alloc: Global, files: Files<Fused>) -> (bool, Files<Fused>) {
     match opened(alloc, files) {
         Ok(mut file) => {
             let done = edited(&mut file).is_ok();
@@ -164,6 +143,60 @@ fn run(alloc: Global, files: Files<Memory>) -> (bool, Files<Memory>) {
         }
         Err((_, files)) => (false, files),
     }
+}
+
+#[test]
+fn a_crash_at_any_call_leaves_the_old_blocks_or_the_new(rt: HostRuntime) -> Result<(), Fail> {
+    let (mut old, mut new) = (false, false);
+    for calls in 0..60 {
+        for (log_calls, file_calls) in [(calls, NO_END), (NO_END, calls)] {
+            let (done, mut files) = run(rt.alloc(), two_blocks(rt.alloc(), log_calls, file_calls)?);
+            files.log.crash();
+            files.db.crash();
+            let Ok(mut file) = opened(rt.alloc(), files) else {
+                return Err("an open file".into());
+            };
+            let found = last_bytes(&mut file)?;
+            assert!(rt; found == [1, 3, 4] || (!done && found == [1, 2, 0]));
+            old |= found == [1, 2, 0];
+            new |= found == [1, 3, 4];
+        }
+    }
+    assert!(rt; old && new);
+    Ok(())
+}
+
+#[test]
+fn a_failed_call_leaves_the_old_blocks_or_the_new(rt: HostRuntime) -> Result<(), Fail> {
+    for calls in 0..60 {
+        let files = two_blocks(rt.alloc(), calls, NO_END)?;
+        let Ok(mut file) = opened(rt.alloc(), files) else {
+            continue;
+        };
+        if !file.is_ready() {
+            continue;
+        }
+        let edits = [
+            BlockEdit {
+                place: 0,
+                block: header(),
+            },
+            BlockEdit {
+                place: 2,
+                block: [5; BLOCK_LEN],
+            },
+        ];
+        let unsaved = matches!(file.commit(&edits), Err(CommitFault::NotSaved(_)));
+        let mut files = file.close();
+        files.log.crash();
+        files.db.crash();
+        let Ok(mut file) = opened(rt.alloc(), files) else {
+            return Err("an open file".into());
+        };
+        let found = last_bytes(&mut file)?;
+        assert!(rt; found == [1, 2, 0] || (!unsaved && found == [1, 2, 5]));
+    }
+    Ok(())
 }
 
 /// Makes of a file's first block one of nines, and answers its first byte. It refuses a file of more than two blocks.
@@ -202,7 +235,7 @@ impl Changer for Nines {
     }
 }
 
-fn changed(alloc: Global, files: Files<Memory>) -> (Result<u8, ChangeFault>, Files<Memory>) {
+fn changed(alloc: Global, files: Files<Fused>) -> (Result<u8, ChangeFault>, Files<Fused>) {
     match opened(alloc, files) {
         Ok(file) => {
             if !file.is_ready() {
@@ -215,18 +248,15 @@ fn changed(alloc: Global, files: Files<Memory>) -> (Result<u8, ChangeFault>, Fil
     }
 }
 
-/// Whether the file is changed, and refused once it has a third block.
-fn is_changed_once(alloc: Global, files: Files<Memory>) -> bool {
-    let (answer, files) = changed(alloc, files);
-    let is_changed = matches!(answer, Ok(1)) && files.db.bytes().first() == Some(&9);
-    let (done, files) = run(alloc, files);
-    let (answer, files) = changed(alloc, files);
-    let is_refused = matches!(answer, Err(ChangeFault::Refused(DirectFault::Astray)));
-    is_changed && done && is_refused && files.db.bytes().last() == Some(&4)
-}
-
 #[test]
 fn a_changer_changes_a_file_or_refuses(rt: HostRuntime) -> Result<(), Fail> {
-    assert!(rt; is_changed_once(rt.alloc(), two_blocks(rt.alloc())?));
+    let (answer, files) = changed(rt.alloc(), two_blocks(rt.alloc(), NO_END, NO_END)?);
+    assert!(rt; matches!(answer, Ok(1)));
+    assert!(rt; files.db.inner().bytes().first() == Some(&9));
+    let (done, files) = run(rt.alloc(), files);
+    assert!(rt; done);
+    let (answer, files) = changed(rt.alloc(), files);
+    assert!(rt; matches!(answer, Err(ChangeFault::Refused(DirectFault::Astray))));
+    assert!(rt; files.db.inner().bytes().last() == Some(&4));
     Ok(())
 }
